@@ -1,0 +1,9 @@
+pub mod Numbers
+pub mod Literals
+pub mod Compare
+pub mod Fields
+pub mod Same
+pub mod Bits
+pub mod Value
+pub mod Order
+pub mod Held
