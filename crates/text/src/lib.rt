@@ -1,0 +1,71 @@
+// Text in a lent buffer: each function appends at an offset and returns the offset behind what it wrote.
+// What does not fit is left out, so that no caller has to count.
+ghost use mathlib.Core.Path.{_≡_};
+ghost use Prim.Native.Nat.{_+_, _%_, _<_, _≤_};
+
+// One byte.
+pub fn put(out: &mut [u8], at: usize, b: u8) -> usize {
+    if at < out.len() {
+        out[at] = b;
+        return at + 1;
+    }
+    at
+}
+
+// All bytes of s.
+pub fn put_all(out: &mut [u8], at: usize, s: &[u8]) -> usize {
+    let mut end = at;
+    let mut i = 0;
+    while i < s.len() {
+        end = put(out, end, s[i]);
+        i += 1;
+    }
+    end
+}
+
+// An upper-case hex digit.
+fn digit(d: u64) -> u8
+    requires { ⌜ d < 16 ⌝ }
+{
+    if d < 10 { b'0' + d as u8 } else { b'A' + (d - 10) as u8 }
+}
+
+// The lowest n hex digits of v, highest first, n at most 16.
+fn put_digits(out: &mut [u8], at: usize, v: u64, n: u32) -> usize
+    requires { ⌜ n ≤ 16 ⌝ }
+{
+    let mut end = at;
+    let mut left = n;
+    while 0 < left {
+        left -= 1;
+        end = put(out, end, digit((v >> (left * 4)) % 16));
+    }
+    end
+}
+
+// 16 upper-case hex digits.
+pub fn put_hex64(out: &mut [u8], at: usize, v: u64) -> usize {
+    put_digits(out, at, v, 16)
+}
+
+// 8 upper-case hex digits.
+pub fn put_hex32(out: &mut [u8], at: usize, v: u32) -> usize {
+    put_digits(out, at, v as u64, 8)
+}
+
+// The bits of an f64, NaN as 7FF8000000000000.
+pub fn put_f64(out: &mut [u8], at: usize, x: f64) -> usize {
+    put_hex64(out, at, floats::bits_of_f64(x))
+}
+
+// The bits of an f32, NaN as 7FC00000.
+pub fn put_f32(out: &mut [u8], at: usize, x: f32) -> usize {
+    put_hex32(out, at, floats::bits_of_f32(x))
+}
+
+// v in decimal.
+pub fn put_decimal(out: &mut [u8], at: usize, v: u64) -> usize {
+    let mut digits = [0u8; 20];
+    let n = io::decimal(v, &mut digits);
+    put_all(out, at, &digits[..n])
+}

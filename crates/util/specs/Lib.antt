@@ -1,0 +1,2 @@
+pub mod Difficulty
+pub mod FloatExt
