@@ -1,0 +1,5 @@
+pub mod Limits
+pub mod Objects
+pub mod Search
+pub mod Place
+pub mod Same

@@ -1,0 +1,5 @@
+pub mod Limits
+pub mod Header
+pub mod Verdict
+pub mod Same
+pub mod Accepted

@@ -1,0 +1,3 @@
+pub mod Osu
+pub mod Path
+pub mod Base

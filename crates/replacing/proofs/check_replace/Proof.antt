@@ -1,0 +1,31 @@
+-- `replacing::check_replace` meets its contract. Assumes nothing.
+use mathlib.Core.Path.{sym, _∙_}
+use Rattle.replacing.specs.Replace.{replaceVerdict}
+use Rattle.opening.specs.Accepted.{opened}
+use borrow.Author.Needs.{needs}
+use Rattle.replacing.proofs.check_replace.Statement.{statement}
+use Rattle.replacing.proofs.check_replace.Tie as tie
+
+check-requires : tie.Need-check-requires
+check-requires c κs = search needs
+
+enum-known-r : tie.Need-enum-known-r
+enum-known-r c = search needs
+
+enum-told : tie.Need-enum-told
+enum-told c = search needs
+
+check-at-requires : tie.Need-check-at-requires
+check-at-requires c κs = opened _ _ (sym (c .before .before .check .ensures) ∙ c .enum-told .given .1)
+
+returns : tie.Need-returns
+unfolding replaceVerdict
+returns c = simp (sym (c .before .before .before .check .ensures) ∙ c .before .r .given .1)
+
+returns-2 : tie.Need-returns-2
+unfolding replaceVerdict
+returns-2 c = simp (sym (c .before .before .before .check .ensures) ∙ c .before .enum-told .given .1, c .check-at .ensures)
+
+pub check-replace-spec : {M : Type 1} → statement M
+check-replace-spec =
+    tie.close (tie.spec check-requires enum-known-r enum-told check-at-requires returns returns-2)

@@ -1,0 +1,5 @@
+pub mod Local
+pub mod Replace
+pub mod Paste
+pub mod Replaced
+pub mod Accepted

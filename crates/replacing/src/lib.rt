@@ -1,0 +1,152 @@
+// Replacing an object of a chart (document 01, "What each call answers").
+
+ghost use mathlib.Core.Path.{_≡_};
+ghost use Prim.Native.Nat.{_+_, _<_, _≤_};
+ghost use lib.ListN.{length};
+ghost use lib.Seq.{paste};
+ghost use Rattle.objects.specs.Objects.{Holds};
+ghost use Rattle.opening.specs.Accepted.{Opened};
+ghost use Rattle.opening.specs.Header.{layoutOf};
+ghost use Rattle.replacing.specs.Local.{fallsHere, fallsNext, newStart, newTooLong, newVerdict};
+ghost use Rattle.replacing.specs.Replace.{Taken, withObject, placeVerdict, replaceVerdict, replaced};
+use objects::Fields;
+use objects::Layout;
+use opening::Refusal;
+use opening::Verdict;
+
+// Copies the first n bytes of s to d, from at on.
+pub fn put(d: &mut [u8], at: usize, s: &[u8], n: usize)
+    requires { ⌜ (at + n ≤ length (now d)) × (n ≤ length (now s)) ⌝ }
+    ensures { λ _. ⌜ now (d .exit) ≡ paste (now (d .entry)) at (now (s .entry)) n ⌝ }
+{
+    let mut k = 0;
+    while k < n {
+        d[at + k] = s[k];
+        k += 1;
+    }
+}
+
+// Condition 5 at the new object's place: it starts before its predecessor.
+fn falls_here(chart: &[u8], lay: Layout, place: usize, f: Fields) -> bool
+    requires { ⌜ Holds (now chart) lay × (place < lay .n) ⌝ }
+    ensures { λ r. ⌜ r ≡ fallsHere (now (chart .entry)) lay place f ⌝ }
+{
+    if place == 0 {
+        return false;
+    }
+    let before = objects::fields_of(chart, lay, place - 1);
+    f.start < before.start
+}
+
+// Condition 5 at the place after: that object starts before the new one.
+fn falls_next(chart: &[u8], lay: Layout, place: usize, f: Fields) -> bool
+    requires { ⌜ Holds (now chart) lay × (place < lay .n) ⌝ }
+    ensures { λ r. ⌜ r ≡ fallsNext (now (chart .entry)) lay place f ⌝ }
+{
+    let n = lay.n;
+    let next = place + 1;
+    if n <= next {
+        return false;
+    }
+    let after = objects::fields_of(chart, lay, next);
+    after.start < f.start
+}
+
+// The start at place j of the new chart.
+fn new_start(chart: &[u8], lay: Layout, place: usize, f: Fields, j: usize) -> f64
+    requires { ⌜ Holds (now chart) lay × (j < lay .n) ⌝ }
+    ensures { λ r. ⌜ r ≡ newStart (now (chart .entry)) lay place f j ⌝ }
+{
+    if j == place {
+        return f.start;
+    }
+    let o = objects::fields_of(chart, lay, j);
+    o.start
+}
+
+// Condition 6 of the new chart.
+fn new_too_long(chart: &[u8], lay: Layout, clock: f64, place: usize, f: Fields) -> bool
+    requires { ⌜ Holds (now chart) lay ⌝ }
+    ensures { λ r. ⌜ r ≡ newTooLong (now (chart .entry)) lay clock place f ⌝ }
+{
+    let n = lay.n;
+    if n < 2 {
+        return false;
+    }
+    let last = new_start(chart, lay, place, f, n - 1);
+    let first = new_start(chart, lay, place, f, 1);
+    opening::far_apart(last, first, clock)
+}
+
+// Conditions 3 to 6 for the chart with an object of these fields at a place: only what that object can have changed is tested.
+fn check_new(chart: &[u8], lay: Layout, clock: f64, place: usize, f: Fields) -> Verdict
+    requires { ⌜ Holds (now chart) lay × (place < lay .n) ⌝ }
+    ensures { λ r. ⌜ r ≡ newVerdict (now (chart .entry)) lay clock place f ⌝ }
+{
+    if !objects::fields_ok(f) {
+        return Verdict::Refused(Refusal::Object(place));
+    }
+    if entries::wrong_entries(chart, lay, f) {
+        return Verdict::Refused(Refusal::Entries(place));
+    }
+    if falls_here(chart, lay, place, f) {
+        return Verdict::Refused(Refusal::Order(place));
+    }
+    if falls_next(chart, lay, place, f) {
+        return Verdict::Refused(Refusal::Order(place + 1));
+    }
+    if new_too_long(chart, lay, clock, place, f) {
+        return Verdict::Refused(Refusal::Length);
+    }
+    Verdict::Accepted
+}
+
+// Condition 8, then 3 to 6 for the chart as it would become; the chart as it is meets none of 1 to 6.
+fn check_at(chart: &[u8], place: usize, object: &[u8]) -> Verdict
+    requires { ⌜ Opened (now chart) ⌝ }
+    ensures { λ r. ⌜ r ≡ placeVerdict (now (chart .entry)) place (now (object .entry)) ⌝ }
+{
+    let lay = opening::layout_of(chart);
+    if lay.n <= place {
+        return Verdict::Refused(Refusal::Place);
+    }
+    if object.len() != lay.object_size {
+        return Verdict::Refused(Refusal::Object(place));
+    }
+    let settings = opening::settings_at(chart, 32);
+    let f = objects::fields_at(object, 0);
+    check_new(chart, lay, settings.clock_rate, place, f)
+}
+
+// All conditions of replacing in their order; entries is the length of the shortest lent table.
+pub fn check_replace(chart: &[u8], place: usize, object: &[u8], entries: usize) -> Verdict
+    ensures { λ r. ⌜ r ≡ replaceVerdict (now (chart .entry)) place (now (object .entry)) entries ⌝ }
+{
+    match opening::check(chart, entries) {
+        Verdict::Refused(r) => Verdict::Refused(r),
+        Verdict::Accepted => check_at(chart, place, object),
+    }
+}
+
+// Writes an accepted object to its place.
+fn put_object(chart: &mut [u8], place: usize, object: &[u8])
+    requires { ⌜ Taken (now chart) place (now object) ⌝ }
+    ensures { λ _. ⌜ now (chart .exit) ≡ withObject (now (chart .entry)) (layoutOf (now (chart .entry))) place (now (object .entry)) ⌝ }
+{
+    let lay = opening::layout_of(chart);
+    let size = lay.object_size;
+    put(chart, 80 + size * place, object, size);
+}
+
+// Replaces the object at a place, or refuses and leaves the chart as it was.
+pub fn replace(chart: &mut [u8], place: usize, object: &[u8], entries: usize) -> Verdict
+    ensures { λ r. ⌜ (r ≡ replaceVerdict (now (chart .entry)) place (now (object .entry)) entries) × (now (chart .exit) ≡ replaced (now (chart .entry)) place (now (object .entry)) entries) ⌝ }
+{
+    match check_replace(chart, place, object, entries) {
+        Verdict::Refused(r) => Verdict::Refused(r),
+        Verdict::Accepted => {
+            put_object(chart, place, object);
+            Verdict::Accepted
+        }
+    }
+}
