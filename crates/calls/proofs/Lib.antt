@@ -1,0 +1,14 @@
+pub mod Refusals
+pub mod Places
+pub mod Scratch
+pub mod Replacing
+pub mod Simulating
+pub mod Locality
+pub mod Steps
+pub mod Keeping
+pub mod Frames
+pub mod Theorems
+pub mod Borrowing
+pub mod Inserting
+pub mod ChartLaws
+pub mod Bridge

@@ -1,0 +1,4 @@
+pub mod Walk
+pub mod Placing
+pub mod Laws
+pub mod Accepted

@@ -1,0 +1,5 @@
+pub mod Constants
+pub mod Cursor
+pub mod Record
+pub mod Reading
+pub mod Examples

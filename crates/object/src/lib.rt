@@ -1,0 +1,371 @@
+// The object record: src/osu/difficulty/object.rs.
+ghost use mathlib.Core.Path.{_≡_};
+ghost use Prim.Native.Nat.{_<_};
+ghost use Rattle.osu_object.specs.Osu.{Ready, objectOf};
+ghost use Rattle.object.specs.Record.{plainOf, placedOf, travelOf, endCursor, lastCursor, jumpDist, minJumpTime, minJumpDist, sliderJump, jumpOf, turnOf, angleTo, newRecord};
+ghost use Rattle.object.specs.Reading.{windowOf, tapnessOf, doubletapness, fadeIn, fadeOut, opacityAt};
+use cursor::Cursor;
+use objects::Layout;
+use opening::Settings;
+use osu_object::OsuObject;
+use osu_object::OsuObjectKind;
+use osu_object::Runs;
+use pos::Pos;
+
+pub mod cursor;
+
+// What records take from one object. Cursor, tail and repeats are zeros but for a slider.
+pub struct Placed {
+    pub base: OsuObject,
+    pub cursor: Cursor,
+    pub tail: Pos,
+    pub repeats: u32,
+}
+
+// How far and how long a slider travels.
+pub struct Travel {
+    pub dist: f64,
+    pub time: f64,
+}
+
+// From the object before.
+pub struct Jump {
+    pub lazy_dist: f64,
+    pub min_dist: f64,
+    pub min_time: f64,
+}
+
+// The angle, 0 where there is none.
+pub struct Turn {
+    pub has_angle: bool,
+    pub angle: f64,
+}
+
+pub struct OsuDifficultyObject {
+    pub start_time: f64,
+    pub delta_time: f64,
+    pub adjusted_delta_time: f64,
+    pub lazy_jump_dist: f64,
+    pub min_jump_dist: f64,
+    pub min_jump_time: f64,
+    pub travel_dist: f64,
+    pub travel_time: f64,
+    pub lazy_end_x: f32,
+    pub lazy_end_y: f32,
+    pub lazy_travel_dist: f64,
+    pub lazy_travel_time: f64,
+    pub angle: f64,
+    pub small_circle_bonus: f64,
+    pub has_lazy_end: bool,
+    pub has_angle: bool,
+}
+
+impl OsuDifficultyObject {
+    pub const NORMALIZED_RADIUS: i32 = 50;
+
+    pub const NORMALIZED_DIAMETER: i32 = Self::NORMALIZED_RADIUS * 2;
+
+    pub const MIN_DELTA_TIME: f64 = 25.0;
+
+    pub const MAX_SLIDER_RADIUS: f32 = Self::NORMALIZED_RADIUS as f32 * 2.4;
+
+    pub const ASSUMED_SLIDER_RADIUS: f32 = Self::NORMALIZED_RADIUS as f32 * 1.8;
+
+    // The record of place j, from the objects at j, j - 1 and j - 2 (any object where j is 1). Of the
+    // records before, which the Rust takes too, it reads nothing that their objects do not give.
+    pub fn new(set: Settings, j: usize, o: Placed, last: Placed, last_last: Placed) -> Self
+        ensures { λ r. ⌜ r ≡ newRecord set j o last «last_last» ⌝ }
+    {
+        let base = o.base;
+        let last_base = last.base;
+        let cursor = o.cursor;
+        let lazy_end = cursor.lazy_end;
+        let delta_time = (base.start_time - last_base.start_time) / set.clock_rate;
+        let adjusted = floats::max(delta_time, Self::MIN_DELTA_TIME);
+        let travel = travel_of(o, set.clock_rate);
+        let jump = jump_of(set, j, adjusted, o, last);
+        let turn = turn_of(j, o, last, last_last);
+        Self {
+            start_time: base.start_time / set.clock_rate,
+            delta_time: delta_time,
+            adjusted_delta_time: adjusted,
+            lazy_jump_dist: jump.lazy_dist,
+            min_jump_dist: jump.min_dist,
+            min_jump_time: jump.min_time,
+            travel_dist: travel.dist,
+            travel_time: travel.time,
+            lazy_end_x: lazy_end.x,
+            lazy_end_y: lazy_end.y,
+            lazy_travel_dist: cursor.lazy_travel_dist,
+            lazy_travel_time: cursor.lazy_travel_time,
+            angle: turn.angle,
+            small_circle_bonus: floats::max(1.0 + (30.0 - set.radius) / 40.0, 1.0),
+            has_lazy_end: cursor.has_lazy_end,
+            has_angle: turn.has_angle,
+        }
+    }
+
+    // With whether the base object is a spinner, and the next record where there is one.
+    pub fn get_doubletapness(
+        self,
+        is_spinner: bool,
+        has_next: bool,
+        next: OsuDifficultyObject,
+        hit_window: f64,
+    ) -> f64
+        ensures { λ r. ⌜ r ≡ doubletapness self «is_spinner» «has_next» next «hit_window» ⌝ }
+    {
+        if !has_next {
+            return 0.0;
+        }
+        tapness(
+            self.delta_time,
+            next.delta_time,
+            window_of(is_spinner, hit_window),
+        )
+    }
+}
+
+pub fn window_of(is_spinner: bool, hit_window: f64) -> f64
+    ensures { λ r. ⌜ r ≡ windowOf «is_spinner» «hit_window» ⌝ }
+{
+    if is_spinner { 0.0 } else { hit_window }
+}
+
+pub fn tapness(delta_time: f64, next_delta: f64, hit_window: f64) -> f64
+    ensures { λ r. ⌜ r ≡ tapnessOf «delta_time» «next_delta» «hit_window» ⌝ }
+{
+    let curr_delta_time = floats::max(delta_time, 1.0);
+    let next_delta_time = floats::max(next_delta, 1.0);
+    let delta_diff = floats::abs(next_delta_time - curr_delta_time);
+    let speed_ratio = curr_delta_time / floats::max(curr_delta_time, delta_diff);
+    let window_ratio = elementary::power(floats::min(curr_delta_time / hit_window, 1.0), 2.0);
+    1.0 - elementary::power(speed_ratio, 1.0 - window_ratio)
+}
+
+const HD_FADE_OUT_DURATION_MULTIPLIER: f64 = 0.3;
+
+fn fade_in(start_time: f64, time: f64, time_preempt: f64, time_fade_in: f64) -> f64
+    ensures { λ r. ⌜ r ≡ fadeIn «start_time» time «time_preempt» «time_fade_in» ⌝ }
+{
+    let fade_in_start_time = start_time - time_preempt;
+    floats::clamp((time - fade_in_start_time) / time_fade_in, 0.0, 1.0)
+}
+
+fn fade_out(start_time: f64, time: f64, time_preempt: f64, time_fade_in: f64) -> f64
+    ensures { λ r. ⌜ r ≡ fadeOut «start_time» time «time_preempt» «time_fade_in» ⌝ }
+{
+    let fade_out_start_time = start_time - time_preempt + time_fade_in;
+    let fade_out_duration = time_preempt * HD_FADE_OUT_DURATION_MULTIPLIER;
+    floats::clamp((time - fade_out_start_time) / fade_out_duration, 0.0, 1.0)
+}
+
+// `opacity_at` of an object with this start time.
+pub fn opacity_at(
+    start_time: f64,
+    time: f64,
+    hidden: bool,
+    time_preempt: f64,
+    time_fade_in: f64,
+) -> f64
+    ensures { λ r. ⌜ r ≡ opacityAt «start_time» time hidden «time_preempt» «time_fade_in» ⌝ }
+{
+    if time > start_time {
+        return 0.0;
+    }
+    let shown = fade_in(start_time, time, time_preempt, time_fade_in);
+    if hidden {
+        return floats::min(
+            shown,
+            1.0 - fade_out(start_time, time, time_preempt, time_fade_in),
+        );
+    }
+    shown
+}
+
+// An object that is no slider.
+fn plain(base: OsuObject) -> Placed
+    ensures { λ r. ⌜ r ≡ plainOf base ⌝ }
+{
+    let zero = Pos { x: 0.0, y: 0.0 };
+    let cursor = Cursor {
+        has_lazy_end: false,
+        lazy_end: zero,
+        lazy_travel_dist: 0.0,
+        lazy_travel_time: 0.0,
+    };
+    Placed {
+        base: base,
+        cursor: cursor,
+        tail: zero,
+        repeats: 0,
+    }
+}
+
+// The object at a place.
+pub fn placed_at(chart: &[u8], lay: Layout, i: usize, radius: f64) -> Placed
+    requires { ⌜ Ready (now chart) lay × (i < lay .n) ⌝ }
+    ensures { λ r. ⌜ r ≡ placedOf radius (objectOf (now (chart .entry)) lay i) ⌝ }
+{
+    let f = objects::fields_of(chart, lay, i);
+    let base = OsuObject::new(f);
+    let kind = base.kind;
+    match kind {
+        OsuObjectKind::Circle => plain(base),
+        OsuObjectKind::Spinner => plain(base),
+        OsuObjectKind::Slider(end, spans) => {
+            let r = Runs::new(f);
+            Placed {
+                base: base,
+                cursor: cursor::compute_slider_cursor_pos(chart, lay, r, base, end, spans, radius),
+                tail: osu_object::tail(chart, lay, r),
+                repeats: osu_object::repeat_count(chart, lay, r),
+            }
+        }
+    }
+}
+
+fn travel_of(o: Placed, clock_rate: f64) -> Travel
+    ensures { λ r. ⌜ r ≡ travelOf o «clock_rate» ⌝ }
+{
+    let base = o.base;
+    let cursor = o.cursor;
+    if base.is_slider() {
+        return Travel {
+            dist: cursor.lazy_travel_dist * elementary::power(1.0 + o.repeats as f64 / 2.5, 1.0 / 2.5),
+            time: floats::max(
+                cursor.lazy_travel_time / clock_rate,
+                OsuDifficultyObject::MIN_DELTA_TIME,
+            ),
+        };
+    }
+    Travel {
+        dist: 0.0,
+        time: 0.0,
+    }
+}
+
+// Where the cursor leaves an object: at a slider's lazy end.
+fn get_end_cursor_pos(o: Placed) -> Pos
+    ensures { λ r. ⌜ r ≡ endCursor o ⌝ }
+{
+    let base = o.base;
+    let cursor = o.cursor;
+    if cursor.has_lazy_end {
+        return cursor.lazy_end;
+    }
+    base.stacked_pos()
+}
+
+// Where the cursor comes from. The object at place 0 has no record, so no lazy end.
+fn last_cursor_pos(j: usize, last: Placed) -> Pos
+    ensures { λ r. ⌜ r ≡ lastCursor j last ⌝ }
+{
+    let base = last.base;
+    if j < 2 {
+        return base.stacked_pos();
+    }
+    get_end_cursor_pos(last)
+}
+
+fn jump_dist(base: OsuObject, last_cursor: Pos, factor: f32) -> f64
+    ensures { λ r. ⌜ r ≡ jumpDist base «last_cursor» factor ⌝ }
+{
+    let to = base.stacked_pos().scaled(factor);
+    let from = last_cursor.scaled(factor);
+    floats::widen(to.sub(from).length())
+}
+
+fn min_jump_time(adjusted: f64, lazy_travel_time: f64, clock_rate: f64) -> f64
+    ensures { λ r. ⌜ r ≡ minJumpTime adjusted «lazy_travel_time» «clock_rate» ⌝ }
+{
+    let last_travel_time = floats::max(
+        lazy_travel_time / clock_rate,
+        OsuDifficultyObject::MIN_DELTA_TIME,
+    );
+    floats::max(
+        adjusted - last_travel_time,
+        OsuDifficultyObject::MIN_DELTA_TIME,
+    )
+}
+
+fn min_jump_dist(base: OsuObject, stacked_tail: Pos, factor: f32, lazy_dist: f64) -> f64
+    ensures { λ r. ⌜ r ≡ minJumpDist base «stacked_tail» factor «lazy_dist» ⌝ }
+{
+    let tail_jump_dist = stacked_tail.sub(base.stacked_pos()).length() * factor;
+    let diff = floats::widen(
+        OsuDifficultyObject::MAX_SLIDER_RADIUS - OsuDifficultyObject::ASSUMED_SLIDER_RADIUS,
+    );
+    let min = floats::widen(tail_jump_dist - OsuDifficultyObject::MAX_SLIDER_RADIUS);
+    floats::max(floats::min(lazy_dist - diff, min), 0.0)
+}
+
+// From a slider.
+fn slider_jump(set: Settings, adjusted: f64, base: OsuObject, last: Placed, lazy_dist: f64) -> Jump
+    ensures { λ r. ⌜ r ≡ sliderJump set adjusted base last «lazy_dist» ⌝ }
+{
+    let last_base = last.base;
+    let cursor = last.cursor;
+    let tail = last.tail;
+    let stack_offset = last_base.stack_offset;
+    let stacked_tail = tail.add(stack_offset);
+    Jump {
+        lazy_dist: lazy_dist,
+        min_dist: min_jump_dist(base, stacked_tail, set.factor, lazy_dist),
+        min_time: min_jump_time(adjusted, cursor.lazy_travel_time, set.clock_rate),
+    }
+}
+
+fn jump_of(set: Settings, j: usize, adjusted: f64, o: Placed, last: Placed) -> Jump
+    ensures { λ r. ⌜ r ≡ jumpOf set j adjusted o last ⌝ }
+{
+    let base = o.base;
+    let last_base = last.base;
+    if base.is_spinner() | last_base.is_spinner() {
+        return Jump {
+            lazy_dist: 0.0,
+            min_dist: 0.0,
+            min_time: 0.0,
+        };
+    }
+    let lazy_dist = jump_dist(base, last_cursor_pos(j, last), set.factor);
+    if (1 < j) & last_base.is_slider() {
+        return slider_jump(set, adjusted, base, last, lazy_dist);
+    }
+    Jump {
+        lazy_dist: lazy_dist,
+        min_dist: lazy_dist,
+        min_time: adjusted,
+    }
+}
+
+fn angle_to(base: OsuObject, last_pos: Pos, last_cursor: Pos, last_last_cursor: Pos) -> f64
+    ensures { λ r. ⌜ r ≡ angleTo base «last_pos» «last_cursor» «last_last_cursor» ⌝ }
+{
+    let v1 = last_last_cursor.sub(last_pos);
+    let v2 = base.stacked_pos().sub(last_cursor);
+    angle::angle(floats::widen(v1.dot(v2)), floats::widen(v1.det(v2)))
+}
+
+fn turn_of(j: usize, o: Placed, last: Placed, last_last: Placed) -> Turn
+    ensures { λ r. ⌜ r ≡ turnOf j o last «last_last» ⌝ }
+{
+    let base = o.base;
+    let last_base = last.base;
+    let last_last_base = last_last.base;
+    if (2 < j) & !base.is_spinner() & !last_base.is_spinner() & !last_last_base.is_spinner() {
+        return Turn {
+            has_angle: true,
+            angle: angle_to(
+                base,
+                last_base.stacked_pos(),
+                last_cursor_pos(j, last),
+                get_end_cursor_pos(last_last),
+            ),
+        };
+    }
+    Turn {
+        has_angle: false,
+        angle: 0.0,
+    }
+}

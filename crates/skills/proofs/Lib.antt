@@ -1,0 +1,14 @@
+pub mod Rows
+pub mod Filling
+pub mod Keeping
+pub mod Reducing
+pub mod Sums
+pub mod Closing
+pub mod Places
+pub mod Local
+pub mod Ends
+pub mod Span
+pub mod First
+pub mod Times
+pub mod Accepted
+pub mod Settles

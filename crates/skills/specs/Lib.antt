@@ -1,0 +1,4 @@
+pub mod Value
+pub mod Strains
+pub mod Chart
+pub mod Shown

@@ -1,0 +1,19 @@
+-- What the walk's code keeps in a slice and in `Sections`, as the definitions have it.
+use mathlib.Core.List.{List}
+use lib.ListN.{take}
+use lib.Ieee.{Float}
+use Rattle.floats.specs.Numbers.{zero64}
+use Rattle.floats.specs.Compare.{maxOf}
+use Rattle.skills.specs.declared.Sections.{Sections}
+use Rattle.skills.specs.Strains.{Walk, firstEnd}
+
+abbrev pub shown : List Float → Sections → Walk
+shown l s = record { peaks = take (s .count) l; peak = s .peak; end = s .end }
+
+-- before place 1, which starts at `start`
+abbrev pub opened : Float → Sections
+opened start = record { count = 0; peak = zero64; end = firstEnd start }
+
+-- `join` of what is shown
+abbrev pub joined : Sections → Float → Sections
+joined s strain = record { count = s .count; peak = maxOf (s .peak) strain; end = s .end }

@@ -1,0 +1,313 @@
+// Strains, the section walk and the totals of the four skills (document 01, "Strains and totals").
+ghost use mathlib.Core.Path.{_≡_};
+ghost use Prim.Native.Nat.{_+_, _-_, _*_, _≤_, _<_};
+ghost use lib.ListN.{length, take, replicate};
+ghost use Rattle.floats.specs.Numbers.{zero64};
+ghost use Rattle.objects.specs.Objects.{Holds, fieldsOf};
+ghost use Rattle.tables.specs.Parts.{row, fill};
+ghost use Rattle.skills.specs.Strains as strains;
+ghost use Rattle.skills.specs.Chart.{Lent, strainRow, peaksOf, totalOf, totalsOf};
+ghost use Rattle.skills.specs.Shown.{shown, opened, joined};
+
+mod aim;
+mod flashlight;
+mod speed;
+mod strain;
+
+use objects::Layout;
+
+pub enum Skill {
+    Aim,
+    AimNoSliders,
+    Speed,
+    Flashlight,
+}
+
+// A number for each skill.
+pub struct Skills {
+    pub aim: f64,
+    pub aim_no_sliders: f64,
+    pub speed: f64,
+    pub flashlight: f64,
+}
+
+// The sections of the walk: how many are closed, the open one's peak, and its end.
+struct Sections {
+    count: usize,
+    peak: f64,
+    end: f64,
+}
+
+const SECTION_LENGTH: f64 = 400.0;
+
+// Sections that are closed before the last, at most; a chart that opens stays below it.
+const ROOM: usize = 8191;
+
+fn strain_decay_base(skill: Skill) -> f64
+    ensures { λ r. ⌜ r ≡ strains.base skill ⌝ }
+{
+    match skill {
+        Skill::Aim => aim::STRAIN_DECAY_BASE,
+        Skill::AimNoSliders => aim::STRAIN_DECAY_BASE,
+        Skill::Speed => speed::STRAIN_DECAY_BASE,
+        Skill::Flashlight => flashlight::STRAIN_DECAY_BASE,
+    }
+}
+
+fn skill_multiplier(skill: Skill) -> f64
+    ensures { λ r. ⌜ r ≡ strains.multiplier skill ⌝ }
+{
+    match skill {
+        Skill::Aim => aim::SKILL_MULTIPLIER,
+        Skill::AimNoSliders => aim::SKILL_MULTIPLIER,
+        Skill::Speed => speed::SKILL_MULTIPLIER,
+        Skill::Flashlight => flashlight::SKILL_MULTIPLIER,
+    }
+}
+
+// Which of a place's five values a skill adds.
+fn column(skill: Skill) -> usize
+    ensures { λ r. ⌜ (r ≡ strains.column skill) × (r < 5) ⌝ }
+{
+    match skill {
+        Skill::Aim => 0,
+        Skill::AimNoSliders => 1,
+        Skill::Speed => 2,
+        Skill::Flashlight => 4,
+    }
+}
+
+// The time by which a strain decays: speed's is the adjusted delta time, the others' the delta time.
+fn elapsed(skill: Skill, delta: f64) -> f64
+    ensures { λ r. ⌜ r ≡ strains.elapsed skill delta ⌝ }
+{
+    match skill {
+        Skill::Aim => delta,
+        Skill::AimNoSliders => delta,
+        Skill::Speed => floats::max(delta, 25.0),
+        Skill::Flashlight => delta,
+    }
+}
+
+// any/difficulty/skills.rs
+fn strain_decay(ms: f64, base: f64) -> f64
+    ensures { λ r. ⌜ r ≡ strains.strainDecay ms base ⌝ }
+{
+    elementary::power(base, ms / 1000.0)
+}
+
+// The decaying strain at place j, after `current` at the place before.
+fn strain_value_at(values: &[f64], j: usize, skill: Skill, current: f64, delta: f64) -> f64
+    requires { ⌜ 5 * j + 5 ≤ length (now values) ⌝ }
+    ensures { λ r. ⌜ r ≡ strains.strainNext skill current delta (row 5 (now (values .entry)) j) ⌝ }
+{
+    let decay = strain_decay(elapsed(skill, delta), strain_decay_base(skill));
+    let at = 5 * j + column(skill);
+    current * decay + values[at] * skill_multiplier(skill)
+}
+
+// The strain that joins at place j: speed's decaying strain times the rhythm, the others' alone.
+fn joined_strain(values: &[f64], j: usize, skill: Skill, current: f64) -> f64
+    requires { ⌜ 5 * j + 5 ≤ length (now values) ⌝ }
+    ensures { λ r. ⌜ r ≡ strains.joined skill current (row 5 (now (values .entry)) j) ⌝ }
+{
+    match skill {
+        Skill::Aim => current,
+        Skill::AimNoSliders => current,
+        Skill::Speed => current * values[5 * j + 3],
+        Skill::Flashlight => current,
+    }
+}
+
+// The strain with which a section starts at `time`, after a place with this start and this strain.
+fn initial_strain(skill: Skill, strain: f64, start: f64, time: f64) -> f64
+    ensures { λ r. ⌜ r ≡ strains.initialStrain skill strain start time ⌝ }
+{
+    strain * strain_decay(time - start, strain_decay_base(skill))
+}
+
+// Closes sections while `start` is after the open one's end. `strain` and `last` are the strain and the start of the place before.
+fn close_sections(
+    peaks: &mut [f64],
+    from: Sections,
+    skill: Skill,
+    strain: f64,
+    last: f64,
+    start: f64,
+) -> Sections
+    requires { ⌜ (from .count ≤ strains.room) × (8192 ≤ length (now peaks)) ⌝ }
+    ensures { λ r. ⌜ (r .count ≤ strains.room) × (shown (now (peaks .exit)) r ≡ strains.closeTo (strains.room - from .count) (strains.initialStrain skill strain last) start (shown (now (peaks .entry)) from)) ⌝ }
+{
+    let mut count = from.count;
+    let mut peak = from.peak;
+    let mut end = from.end;
+    while count < ROOM {
+        if end < start {
+            peaks[count] = peak;
+            peak = initial_strain(skill, strain, last, end);
+            end = end + SECTION_LENGTH;
+            count += 1;
+        } else {
+            return Sections { count, peak, end };
+        }
+    }
+    Sections { count, peak, end }
+}
+
+// The sections before place 1, which starts at `start`: the first is open, and its peak starts at 0.
+fn open_first(start: f64) -> Sections
+    ensures { λ r. ⌜ r ≡ opened start ⌝ }
+{
+    Sections {
+        count: 0,
+        peak: 0.0,
+        end: whole::ceil(start / SECTION_LENGTH) * SECTION_LENGTH,
+    }
+}
+
+// The strain joins the open section's peak by max.
+fn join(s: Sections, strain: f64) -> Sections
+    ensures { λ r. ⌜ r ≡ joined s strain ⌝ }
+{
+    Sections {
+        count: s.count,
+        peak: floats::max(s.peak, strain),
+        end: s.end,
+    }
+}
+
+// The start of place j as the chart has it, not divided by the clock rate.
+fn raw_start(chart: &[u8], lay: Layout, j: usize) -> f64
+    requires { ⌜ Holds (now chart) lay × (j < lay .n) ⌝ }
+    ensures { λ r. ⌜ r ≡ fieldsOf (now (chart .entry)) lay j .start ⌝ }
+{
+    let f = objects::fields_of(chart, lay, j);
+    f.start
+}
+
+// The section walk over a chart of two objects or more: writes the peaks of all sections, the last closed too, and returns how many they are.
+fn walk(
+    chart: &[u8],
+    lay: Layout,
+    clock: f64,
+    values: &[f64],
+    skill: Skill,
+    peaks: &mut [f64],
+) -> usize
+    requires { ⌜ (Lent (now chart) lay (now values)) × (2 ≤ lay .n) × (8192 ≤ length (now peaks)) ⌝ }
+    ensures { λ r. ⌜ (r ≤ 8192) × (take r (now (peaks .exit)) ≡ peaksOf (now (chart .entry)) lay clock (now (values .entry)) skill) ⌝ }
+{
+    let n = lay.n;
+    let mut sections = open_first(raw_start(chart, lay, 1) / clock);
+    let mut raw_last = raw_start(chart, lay, 0);
+    let mut last = 0.0;
+    let mut current = 0.0;
+    let mut joined = 0.0;
+    let mut j = 1;
+    while j < n {
+        let raw = raw_start(chart, lay, j);
+        let start = raw / clock;
+        let closed = close_sections(peaks, sections, skill, joined, last, start);
+        current = strain_value_at(values, j, skill, current, (raw - raw_last) / clock);
+        joined = joined_strain(values, j, skill, current);
+        sections = join(closed, joined);
+        raw_last = raw;
+        last = start;
+        j += 1;
+    }
+    let count = sections.count;
+    peaks[count] = sections.peak;
+    count + 1
+}
+
+// The strains of places 1 to n - 1 of one skill, each written to its place.
+pub fn strains_into(
+    chart: &[u8],
+    lay: Layout,
+    clock: f64,
+    values: &[f64],
+    skill: Skill,
+    out: &mut [f64],
+)
+    requires { ⌜ (Lent (now chart) lay (now values)) × (lay .n ≤ length (now out)) ⌝ }
+    ensures { λ _. ⌜ now (out .exit) ≡ fill 1 (strainRow (now (chart .entry)) lay clock (now (values .entry)) skill) 1 (lay .n - 1) (now (out .entry)) ⌝ }
+{
+    let n = lay.n;
+    if n < 2 {
+        return;
+    }
+    let mut raw_last = raw_start(chart, lay, 0);
+    let mut current = 0.0;
+    let mut j = 1;
+    while j < n {
+        let raw = raw_start(chart, lay, j);
+        current = strain_value_at(values, j, skill, current, (raw - raw_last) / clock);
+        out[j] = joined_strain(values, j, skill, current);
+        raw_last = raw;
+        j += 1;
+    }
+}
+
+// A skill's total. What the scratch holds afterwards is not said.
+fn skill_total(
+    chart: &[u8],
+    lay: Layout,
+    clock: f64,
+    values: &[f64],
+    skill: Skill,
+    peaks: &mut [f64],
+    tmp: &mut [f64],
+) -> f64
+    requires { ⌜ (Lent (now chart) lay (now values)) × (8192 ≤ length (now peaks)) × (8192 ≤ length (now tmp)) ⌝ }
+    ensures { λ r. ⌜ r ≡ totalOf (now (chart .entry)) lay clock (now (values .entry)) skill ⌝ }
+{
+    if lay.n < 2 {
+        return 0.0;
+    }
+    let count = walk(chart, lay, clock, values, skill, peaks);
+    strain::difficulty_of(skill, &mut peaks[0..count], tmp)
+}
+
+fn clear(a: &mut [f64])
+    ensures { λ _. ⌜ now (a .exit) ≡ replicate (length (now (a .entry))) zero64 ⌝ }
+{
+    let mut i = 0;
+    while i < a.len() {
+        a[i] = 0.0;
+        i += 1;
+    }
+}
+
+// The four totals. All scratch is 0 afterwards, for charts of 0 and 1 objects too.
+pub fn totals(
+    chart: &[u8],
+    lay: Layout,
+    clock: f64,
+    values: &[f64],
+    a: &mut [f64],
+    b: &mut [f64],
+    c: &mut [f64],
+    d: &mut [f64],
+) -> Skills
+    requires { ⌜ (Lent (now chart) lay (now values)) × (8192 ≤ length (now a)) × (8192 ≤ length (now b)) × (8192 ≤ length (now c)) × (8192 ≤ length (now d)) ⌝ }
+    ensures result { λ r. ⌜ r ≡ totalsOf (now (chart .entry)) lay clock (now (values .entry)) ⌝ }
+    ensures first { λ _. ⌜ now (a .exit) ≡ replicate (length (now (a .entry))) zero64 ⌝ }
+    ensures second { λ _. ⌜ now (b .exit) ≡ replicate (length (now (b .entry))) zero64 ⌝ }
+    ensures third { λ _. ⌜ now (c .exit) ≡ replicate (length (now (c .entry))) zero64 ⌝ }
+    ensures fourth { λ _. ⌜ now (d .exit) ≡ replicate (length (now (d .entry))) zero64 ⌝ }
+{
+    let aim = skill_total(chart, lay, clock, values, Skill::Aim, a, b);
+    let aim_no_sliders = skill_total(chart, lay, clock, values, Skill::AimNoSliders, b, a);
+    let speed = skill_total(chart, lay, clock, values, Skill::Speed, c, d);
+    let flashlight = skill_total(chart, lay, clock, values, Skill::Flashlight, d, c);
+    clear(a);
+    clear(b);
+    clear(c);
+    clear(d);
+    Skills {
+        aim,
+        aim_no_sliders,
+        speed,
+        flashlight,
+    }
+}
