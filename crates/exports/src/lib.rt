@@ -1,4 +1,5 @@
-// The functions on numbers under C names, for the benchmark.
+// The functions on numbers and the check of a chart under C names, for the benchmarks.
+use opening::Verdict;
 
 #[no_mangle]
 pub extern "C" fn rattle_log10(b: f64) -> f64 {
@@ -48,4 +49,17 @@ pub extern "C" fn rattle_trunc(x: f64) -> f64 {
 #[no_mangle]
 pub extern "C" fn rattle_to_i32(x: f64) -> i32 {
     whole::to_i32(x)
+}
+
+// What opening answers for tables of as many entries: 0, or the refusal's number times 2^32 plus its place.
+#[no_mangle]
+pub extern "C" fn rattle_check(chart: &[u8], entries: usize) -> u64 {
+    match opening::check(chart, entries) {
+        Verdict::Accepted => 0,
+        Verdict::Refused(r) => code(r.number(), r.place()),
+    }
+}
+
+fn code(number: usize, place: usize) -> u64 {
+    (number % 16) as u64 * 0x1_0000_0000 + (place % 0x1_0000_0000) as u64
 }

@@ -51,7 +51,11 @@ fn answer(out: &mut [u8], at: usize, f: u8, x: u64, y: u64, z: u64) -> usize {
         b'i' => text::put_f64(out, at, whole::to_i32(a) as f64),
         b'n' => text::put_f32(out, at, whole::f64_to_f32(a)),
         b'q' => text::put_f32(out, at, root32_of(x)),
-        b'N' => text::put(out, at, told(util::float_ext::not_eq(a, floats::f64_of_bits(y)))),
+        b'N' => text::put(
+            out,
+            at,
+            told(util::float_ext::not_eq(a, floats::f64_of_bits(y))),
+        ),
         _ => text::put_f64(
             out,
             at,

@@ -2,4 +2,3 @@ pub mod Constants
 pub mod Cursor
 pub mod Record
 pub mod Reading
-pub mod Examples

@@ -232,7 +232,8 @@ fn travel_of(o: Placed, clock_rate: f64) -> Travel
     let cursor = o.cursor;
     if base.is_slider() {
         return Travel {
-            dist: cursor.lazy_travel_dist * elementary::power(1.0 + o.repeats as f64 / 2.5, 1.0 / 2.5),
+            dist: cursor.lazy_travel_dist
+                * elementary::power(1.0 + o.repeats as f64 / 2.5, 1.0 / 2.5),
             time: floats::max(
                 cursor.lazy_travel_time / clock_rate,
                 OsuDifficultyObject::MIN_DELTA_TIME,

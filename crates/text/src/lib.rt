@@ -27,7 +27,11 @@ pub fn put_all(out: &mut [u8], at: usize, s: &[u8]) -> usize {
 fn digit(d: u64) -> u8
     requires { ⌜ d < 16 ⌝ }
 {
-    if d < 10 { b'0' + d as u8 } else { b'A' + (d - 10) as u8 }
+    if d < 10 {
+        b'0' + d as u8
+    } else {
+        b'A' + (d - 10) as u8
+    }
 }
 
 // The lowest n hex digits of v, highest first, n at most 16.

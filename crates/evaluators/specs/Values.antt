@@ -1,0 +1,39 @@
+-- Document 01, "The values": the five values of a place, from what its evaluators may see. Definitions only.
+use Prim.Native.Nat.{ℕ, _+_, _-_, min}
+use mathlib.Core.Bool.{true, false}
+use mathlib.Core.List.{List, [], _∷_}
+use lib.Ieee.{Float}
+use Rattle.opening.specs.declared.Settings.{Settings}
+use Rattle.objects.specs.declared.Layout.{Layout}
+use Rattle.osu_object.specs.Osu.{Object, objectOf}
+use Rattle.osu_object.specs.Base.{repeatsOf}
+use Rattle.object.specs.declared.OsuDifficultyObject.{OsuDifficultyObject}
+use Rattle.records.specs.Rows.{recordAt}
+use Rattle.sight.specs.Sight.{viewOf}
+use Rattle.aim.specs.Aim.{aimOf}
+use Rattle.speed.specs.Speed.{speedAtPlace}
+use Rattle.rhythm.specs.Rhythm.{rhythmAtPlace}
+use Rattle.flashlight.specs.Flashlight.{evaluatorOf, flashlightOf}
+use Rattle.evaluators.specs.declared.Values.{Values}
+
+-- a row of the value table: aim, aim without sliders, speed, rhythm, flashlight
+unfoldable pub rowOf : Values → List Float
+rowOf v = v .aim ∷ v .«aim_no_sliders» ∷ v .speed ∷ v .rhythm ∷ v .flashlight ∷ []
+
+-- the values of place j, of objects and their records by place, where `last` is the last place that `next` reaches
+unfoldable pub valuesOf : Settings → ℕ → (ℕ → Object) → (ℕ → OsuDifficultyObject) → ℕ → List Float
+valuesOf set last os rs j =
+    aimOf (viewOf os rs j) (j - 1) true
+    ∷ aimOf (viewOf os rs j) (j - 1) false
+    ∷ speedAtPlace os rs last j (set .«hit_window») (set .autopilot)
+    ∷ rhythmAtPlace os rs last j (set .«hit_window»)
+    ∷ flashlightOf (evaluatorOf set) (viewOf os rs j) (j - 1) (repeatsOf (os j)) (set .hidden)
+    ∷ []
+
+-- the last place that `next` reaches from place j of n
+abbrev pub reachOf : ℕ → ℕ → ℕ
+reachOf n j = min (j + 1) (n - 1)
+
+-- of a chart's objects and the records in a table
+abbrev pub valuesIn : Settings → List ℕ → Layout → List Float → ℕ → List Float
+valuesIn set s lay t j = valuesOf set (reachOf (lay .n) j) (objectOf s lay) (recordAt t) j

@@ -1,0 +1,19 @@
+-- `rhythm::RhythmState::switched` meets its contract. Assumes nothing.
+use Rattle.rhythm.proofs.Signed.{back}
+use Rattle.rhythm.specs.Rhythm.{switchedOf}
+use borrow.Author.Needs.{needs}
+use Rattle.rhythm.proofs.RhythmState.switched.Statement.{statement}
+use Rattle.rhythm.proofs.RhythmState.switched.Tie as tie
+
+new-with-delta-requires : tie.Need-new-with-delta-requires
+new-with-delta-requires c κs = search needs
+
+root64-requires : tie.Need-root64-requires
+root64-requires c κs = search needs
+
+returns : tie.Need-returns
+unfolding switchedOf
+returns c = simp (c .before .root64 .ensures, c .before .before .before .before .before .new-with-delta .ensures) (simp (back _ (c .before .before .before .before .before .before .fits .delta)))
+
+pub switched-spec : {M : Type 1} → statement M
+switched-spec = tie.close (tie.spec new-with-delta-requires root64-requires returns)

@@ -1,0 +1,104 @@
+-- `rhythm::run` meets its contract. Assumes nothing.
+use Prim.Native.Nat.{_≤_, _-_}
+use mathlib.Core.Path.{_≡_, sym, _∙_}
+use native.Mathlib.Omega.{arith}
+use denote.Ref.{now}
+use borrow.Author.Needs.{needs}
+use Rattle.osu_object.specs.Osu.{objectOf}
+use Rattle.speed.specs.Part.{partAt}
+use Rattle.rhythm.specs.Rhythm.{Good, cellsOf, runOf, freshState}
+use Rattle.rhythm.proofs.History.{run-turn, run-end, cell-here, good-mono, good-fresh, good-step}
+use Rattle.rhythm.proofs.Laws.{few-steps}
+use Rattle.rhythm.proofs.run.Statement.{statement}
+use Rattle.rhythm.proofs.run.Tie as tie
+
+abbrev Inv-loop : tie.InvT-loop
+Inv-loop t first chart lay j hist from window eps here s₀ k₀ s k =
+    (k ≤ from) × Good (from - k) s
+    × (runOf (cellsOf (objectOf chart lay) (partAt t first) j) hist window eps k s
+    ≡ runOf (cellsOf (objectOf chart lay) (partAt t first) j) hist window eps from (freshState eps))
+
+abbrev μ-loop : tie.MeasureT-loop
+μ-loop t first chart lay j hist from window eps here s₀ k₀ s k = k
+
+cell-at-requires : tie.Need-cell-at-requires Inv-loop μ-loop
+cell-at-requires c κs = search needs
+
+new-requires : tie.Need-new-requires Inv-loop μ-loop
+new-requires c κs = search needs
+
+loop-holds : tie.Need-loop-holds Inv-loop μ-loop
+loop-holds c = (search needs, rw (c .new .ensures) (good-mono 0 _ _ (omega arith) (good-fresh _)), rw (c .new .ensures))
+
+sub-cell-at : tie.Need-sub-cell-at Inv-loop μ-loop
+sub-cell-at c = search needs
+
+cell-at-requires-2 : tie.Need-cell-at-requires-2 Inv-loop μ-loop
+cell-at-requires-2 c κs = search needs
+
+add-cell-at : tie.Need-add-cell-at Inv-loop μ-loop
+add-cell-at c = search needs
+
+sub-cell-at-2 : tie.Need-sub-cell-at-2 Inv-loop μ-loop
+sub-cell-at-2 c = search needs
+
+cell-at-requires-3 : tie.Need-cell-at-requires-3 Inv-loop μ-loop
+cell-at-requires-3 c κs = search needs
+
+add-cell-at-2 : tie.Need-add-cell-at-2 Inv-loop μ-loop
+add-cell-at-2 c = search needs
+
+sub-cell-at-3 : tie.Need-sub-cell-at-3 Inv-loop μ-loop
+sub-cell-at-3 c = search needs
+
+cell-at-requires-4 : tie.Need-cell-at-requires-4 Inv-loop μ-loop
+cell-at-requires-4 c κs = search needs
+
+decay-requires : tie.Need-decay-requires Inv-loop μ-loop
+decay-requires c κs = search needs
+
+step-requires : tie.Need-step-requires Inv-loop μ-loop
+step-requires c κs = good-mono _ 31 _ (few-steps (c .before .before .before .before .before .before .before .before .before .before .args .from) (c .before .before .before .before .before .loop .k) (c .before .before .before .before .before .before .before .before .before .before .args .hist) (c .before .before .before .before .before .before .before .before .before .before .pre .3) (c .before .before .before .before .before .before .before .before .before .before .pre .5)) (c .before .before .before .before .before .loop .inv .1)
+
+sub-k : tie.Need-sub-k Inv-loop μ-loop
+sub-k c = search needs
+
+loop-less : tie.Need-loop-less Inv-loop μ-loop
+loop-less c = search needs
+
+loop-again : tie.Need-loop-again Inv-loop μ-loop
+loop-again c = (
+  search needs,
+  rw (c .step .ensures) (good-mono _ _ _ (omega (arith, c .before .before .before .before .before .before .loop .inv .0, c .before .before .before .before .before .loop-test .taken)) (good-step _ (c .before .before .before .before .before .before .loop .s) (c .before .before .before .before .before .before .loop .inv .1) _ _ _ _ _ _)),
+  run-turn (cellsOf (objectOf (now (c .before .before .before .before .before .before .before .before .before .before .before .args .chart)) (c .before .before .before .before .before .before .before .before .before .before .before .args .lay)) (partAt (now (c .before .before .before .before .before .before .before .before .before .before .before .args .t)) (c .before .before .before .before .before .before .before .before .before .before .before .args .first)) (c .before .before .before .before .before .before .before .before .before .before .before .args .j)) (c .before .before .before .before .before .before .before .before .before .before .before .args .hist) _ _ (c .before .before .before .before .before .before .loop .k) (c .before .before .before .before .before .before .loop .s) _ (c .before .before .before .before .before .before .before .before .cell-at .result) _ _ _ _ (search needs)
+      (cell-here (objectOf (now (c .before .before .before .before .before .before .before .before .before .before .before .args .chart)) (c .before .before .before .before .before .before .before .before .before .before .before .args .lay)) (partAt (now (c .before .before .before .before .before .before .before .before .before .before .before .args .t)) (c .before .before .before .before .before .before .before .before .before .before .before .args .first)) (c .before .before .before .before .before .before .before .before .before .before .before .args .j) _ (c .before .before .before .before .before .before .before .before .cell-at .ensures))
+      (c .before .before .before .before .cell-at2 .ensures) (c .before .before .before .cell-at3 .ensures) (c .before .before .cell-at4 .ensures) (c .before .decay .ensures) (c .step .ensures)
+      ∙ c .before .before .before .before .before .before .loop .inv .2,
+)
+
+returns : tie.Need-returns Inv-loop μ-loop
+returns c = sym (run-end (cellsOf (objectOf (now (c .before .before .before .before .before .before .args .chart)) (c .before .before .before .before .before .before .args .lay)) (partAt (now (c .before .before .before .before .before .before .args .t)) (c .before .before .before .before .before .before .args .first)) (c .before .before .before .before .before .before .args .j)) (c .before .before .before .before .before .before .args .hist) _ _ (c .before .loop .k) _ (search needs)) ∙ c .before .loop .inv .2
+
+pub run-spec : {M : Type 1} → statement M
+run-spec =
+    tie.close
+    (tie.spec
+    Inv-loop
+    μ-loop
+    cell-at-requires
+    new-requires
+    loop-holds
+    sub-cell-at
+    cell-at-requires-2
+    add-cell-at
+    sub-cell-at-2
+    cell-at-requires-3
+    add-cell-at-2
+    sub-cell-at-3
+    cell-at-requires-4
+    decay-requires
+    step-requires
+    sub-k
+    loop-less
+    loop-again
+    returns)

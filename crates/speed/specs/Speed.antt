@@ -1,0 +1,48 @@
+-- evaluators/speed.rs, in its order of operations. Definitions only.
+use Prim.Native.Nat.{ℕ, _+_, _-_}
+use mathlib.Core.Bool.{Bool, cond}
+use lib.Dec.{ltb}
+use lib.Ieee as Ieee
+use lib.Ieee.{Float, binary64}
+use Rattle.floats.specs.Numbers.{_⊕_, _⊖_, _⊗_, _⊘_, zero64, one64, two64}
+use Rattle.floats.specs.Compare.{minOf, clampOf}
+use Rattle.roots.specs.Root.{rootOf}
+use Rattle.elementary.specs.Power.{powerOf}
+use Rattle.util.specs.Difficulty.{bpmToMilliseconds, millisecondsToBpm}
+use Rattle.osu_object.specs.Osu.{Object}
+use Rattle.osu_object.specs.Base.{baseOf}
+use Rattle.osu_object.specs.declared.BaseObject.{BaseObject}
+use Rattle.object.specs.Reading.{doubletapness}
+use Rattle.object.specs.declared.OsuDifficultyObject.{OsuDifficultyObject}
+use Rattle.speed.specs.Constants.{singleSpacingThreshold, minSpeedBonus, speedBalancingFactor, distMultiplier, windowShare, leastCap, bonusScale, distExponent, second}
+
+unfoldable pub strainTime : Float → Float → Float
+strainTime adjusted window = adjusted ⊘ clampOf (adjusted ⊘ window ⊘ windowShare) leastCap one64
+
+unfoldable pub speedBonus : Float → Float
+speedBonus time =
+    cond (Ieee.lt minSpeedBonus (millisecondsToBpm time))
+    (bonusScale ⊗ powerOf ((bpmToMilliseconds minSpeedBonus ⊖ time) ⊘ speedBalancingFactor) two64)
+    zero64
+
+unfoldable pub distBonus : Float → Float → Bool → Float
+distBonus dist circle autopilot =
+    cond autopilot zero64
+    (powerOf (minOf singleSpacingThreshold dist ⊘ singleSpacingThreshold) distExponent ⊗ distMultiplier ⊗ rootOf binary64 circle)
+
+-- `evaluate_diff_of`: with the travel distance of the record before, and the next record where there is one
+unfoldable pub speedOf : OsuDifficultyObject → Float → Bool → OsuDifficultyObject → Bool → Float → Bool → Float
+speedOf curr travel hasNext next spinner window autopilot =
+    let time = strainTime (curr .«adjusted_delta_time») window in
+    cond spinner zero64
+    ((one64 ⊕ speedBonus time ⊕ distBonus (travel ⊕ curr .«min_jump_dist») (curr .«small_circle_bonus») autopilot) ⊗ second ⊘ time
+    ⊗ (one64 ⊖ doubletapness curr spinner hasNext next window))
+
+-- the travel distance of the record before place j, 0 where there is none
+unfoldable pub travelBefore : (ℕ → OsuDifficultyObject) → ℕ → Float
+travelBefore rs j = cond (ltb 1 j) (rs (j - 1) .«travel_dist») zero64
+
+-- at place j of objects and their records, of which `next` reaches those up to a last place
+unfoldable pub speedAtPlace : (ℕ → Object) → (ℕ → OsuDifficultyObject) → ℕ → ℕ → Float → Bool → Float
+speedAtPlace os rs last j window autopilot =
+    speedOf (rs j) (travelBefore rs j) (ltb j last) (rs (j + 1)) (baseOf (os j) .spinner) window autopilot

@@ -1,0 +1,160 @@
+// The speed evaluator: evaluators/speed.rs.
+ghost use mathlib.Core.Path.{_≡_};
+ghost use Prim.Native.Nat.{_+_, _*_, _-_, min, _≤_, _<_};
+ghost use lib.ListN.{length};
+ghost use Rattle.records.specs.Rows.{recordAt};
+ghost use Rattle.osu_object.specs.Osu.{Ready, objectOf};
+ghost use Rattle.osu_object.specs.Base.{baseOf};
+ghost use Rattle.speed.specs.Part.{Lent, partAt};
+ghost use Rattle.speed.specs.Speed.{strainTime, speedBonus, distBonus, speedOf, travelBefore, speedAtPlace};
+use object::OsuDifficultyObject;
+use objects::Layout;
+use osu_object::OsuObject;
+
+pub mod part;
+
+// 1.25 circles between centres.
+const SINGLE_SPACING_THRESHOLD: f64 = OsuDifficultyObject::NORMALIZED_DIAMETER as f64 * 1.25;
+
+// Beats per minute, four notes to a beat.
+const MIN_SPEED_BONUS: f64 = 200.0;
+
+const SPEED_BALANCING_FACTOR: f64 = 40.0;
+
+const DIST_MULTIPLIER: f64 = 0.8;
+
+// The delta time held to the hit window.
+fn strain_time(adjusted: f64, hit_window: f64) -> f64
+    ensures { λ r. ⌜ r ≡ strainTime adjusted «hit_window» ⌝ }
+{
+    adjusted / floats::clamp(adjusted / hit_window / 0.93, 0.92, 1.0)
+}
+
+fn speed_bonus(strain_time: f64) -> f64
+    ensures { λ r. ⌜ r ≡ speedBonus «strain_time» ⌝ }
+{
+    if util::difficulty::milliseconds_to_bpm(strain_time) > MIN_SPEED_BONUS {
+        let least = util::difficulty::bpm_to_milliseconds(MIN_SPEED_BONUS);
+        let base = (least - strain_time) / SPEED_BALANCING_FACTOR;
+        return 0.75 * elementary::power(base, 2.0);
+    }
+    0.0
+}
+
+fn dist_bonus(dist: f64, small_circle_bonus: f64, autopilot: bool) -> f64
+    ensures { λ r. ⌜ r ≡ distBonus dist «small_circle_bonus» autopilot ⌝ }
+{
+    if autopilot {
+        return 0.0;
+    }
+    let dist = floats::min(SINGLE_SPACING_THRESHOLD, dist);
+    let bonus = elementary::power(dist / SINGLE_SPACING_THRESHOLD, 3.95) * DIST_MULTIPLIER;
+    bonus * roots::root64(small_circle_bonus)
+}
+
+// The value of a record, with the travel distance of the one before it.
+fn evaluate(
+    curr: OsuDifficultyObject,
+    travel_dist: f64,
+    has_next: bool,
+    next: OsuDifficultyObject,
+    spinner: bool,
+    hit_window: f64,
+    autopilot: bool,
+) -> f64
+    ensures { λ r. ⌜ r ≡ speedOf curr «travel_dist» «has_next» next spinner «hit_window» autopilot ⌝ }
+{
+    if spinner {
+        return 0.0;
+    }
+    let strain_time = strain_time(curr.adjusted_delta_time, hit_window);
+    let doubletapness = 1.0 - curr.get_doubletapness(spinner, has_next, next, hit_window);
+    let speed_bonus = speed_bonus(strain_time);
+    let dist_bonus = dist_bonus(
+        travel_dist + curr.min_jump_dist,
+        curr.small_circle_bonus,
+        autopilot,
+    );
+    let difficulty = (1.0 + speed_bonus + dist_bonus) * 1000.0 / strain_time;
+    difficulty * doubletapness
+}
+
+fn travel_before(t: &[f64], first: usize, j: usize) -> f64
+    requires { ⌜ Lent (now t) first j j ⌝ }
+    ensures { λ r. ⌜ r ≡ travelBefore (partAt (now (t .entry)) first) j ⌝ }
+{
+    if 1 < j {
+        let before = records::record_at(t, j - 1 - first);
+        return before.travel_dist;
+    }
+    0.0
+}
+
+// The value at place j, from the part of the record table that holds the places first to last.
+pub fn evaluate_diff_of(
+    t: &[f64],
+    first: usize,
+    last: usize,
+    chart: &[u8],
+    lay: Layout,
+    j: usize,
+    hit_window: f64,
+    autopilot: bool,
+) -> f64
+    requires { ⌜ Ready (now chart) lay × (j < lay .n) × Lent (now t) first last j ⌝ }
+    ensures { λ r. ⌜ r ≡ speedAtPlace (objectOf (now (chart .entry)) lay) (partAt (now (t .entry)) first) last j «hit_window» autopilot ⌝ }
+{
+    let base = OsuObject::new(objects::fields_of(chart, lay, j));
+    let spinner = base.is_spinner();
+    let curr = records::record_at(t, j - first);
+    let travel_dist = travel_before(t, first, j);
+    if j < last {
+        let next = records::record_at(t, j + 1 - first);
+        return evaluate(
+            curr,
+            travel_dist,
+            true,
+            next,
+            spinner,
+            hit_window,
+            autopilot,
+        );
+    }
+    evaluate(
+        curr,
+        travel_dist,
+        false,
+        curr,
+        spinner,
+        hit_window,
+        autopilot,
+    )
+}
+
+// The value at place j of a whole table: the evaluator is lent the middle of it.
+pub fn evaluate_place(
+    t: &[f64],
+    chart: &[u8],
+    lay: Layout,
+    j: usize,
+    hit_window: f64,
+    autopilot: bool,
+) -> f64
+    requires { ⌜ Ready (now chart) lay × (1 ≤ j) × (j < lay .n) × (16 * lay .n ≤ length (now t)) ⌝ }
+    ensures { λ r. ⌜ r ≡ speedAtPlace (objectOf (now (chart .entry)) lay) (recordAt (now (t .entry))) (min (j + 1) (lay .n - 1)) j «hit_window» autopilot ⌝ }
+{
+    let first = part::first(j);
+    let last = part::last(j, lay.n);
+    let from = 16 * first;
+    let to = 16 * (last + 1);
+    evaluate_diff_of(
+        &t[from..to],
+        first,
+        last,
+        chart,
+        lay,
+        j,
+        hit_window,
+        autopilot,
+    )
+}

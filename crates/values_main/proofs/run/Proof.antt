@@ -1,0 +1,98 @@
+-- `values_main::run` meets its contract: the buffers keep their lengths. Assumes nothing.
+use mathlib.Core.Path.{_≡_}
+use lib.ListN.{length}
+use borrow.Author.Needs.{needs}
+use Rattle.values_main.proofs.run.Statement.{statement}
+use Rattle.values_main.proofs.run.Tie as tie
+use Rattle.values_main.proofs.run.Reads as reads
+use Rattle.values_main.proofs.run.Lts as lts
+use Rattle.values_main.proofs.answer.Reads as answer-reads
+use Rattle.values_main.proofs.read_chart.Reads as read-chart-reads
+
+abbrev Inv-loop : tie.InvT-loop
+Inv-loop chart₀ t₀ values₀ left₀ chart t values left = (length chart ≡ length chart₀) × (length t ≡ length t₀) × (length values ≡ length values₀)
+
+abbrev μ-loop : tie.MeasureT-loop
+μ-loop chart₀ t₀ values₀ left₀ chart t values left = left
+
+-- src/main.rt:100:5
+loop-holds : tie.Need-loop-holds Inv-loop μ-loop
+loop-holds c = search needs
+
+-- src/main.rt:101:13
+read-chart-requires : tie.Need-read-chart-requires Inv-loop μ-loop
+read-chart-requires c κs = search needs
+
+-- src/main.rt:103:20
+sub-answer : tie.Need-sub-answer Inv-loop μ-loop
+sub-answer c = search needs
+
+-- src/main.rt:103:20
+part-answer-start : tie.Need-part-answer-start Inv-loop μ-loop
+part-answer-start c = search needs
+
+-- src/main.rt:103:20
+part-answer-end : tie.Need-part-answer-end Inv-loop μ-loop
+part-answer-end c = search needs
+
+-- src/main.rt:103:13
+answer-requires : tie.Need-answer-requires Inv-loop μ-loop
+answer-requires c κs = search needs
+
+-- src/main.rt:104:13
+sub-left : tie.Need-sub-left Inv-loop μ-loop
+sub-left c = search needs
+
+-- src/main.rt:100:5
+loop-less : tie.Need-loop-less Inv-loop μ-loop
+loop-less c = search needs
+
+-- src/main.rt:100:5
+loop-again : tie.Need-loop-again Inv-loop μ-loop
+loop-again c = search needs
+
+-- src/main.rt:100:5
+loop-less-2 : tie.Need-loop-less-2 Inv-loop μ-loop
+loop-less-2 c = search needs
+
+-- src/main.rt:100:5
+loop-again-2 : tie.Need-loop-again-2 Inv-loop μ-loop
+loop-again-2 c = search needs
+
+-- src/main.rt:96:1
+same-length : tie.Need-same-length Inv-loop μ-loop
+same-length c = search needs
+
+-- src/main.rt:96:1
+same-length-2 : tie.Need-same-length-2 Inv-loop μ-loop
+same-length-2 c = search needs
+
+-- src/main.rt:96:1
+same-length-3 : tie.Need-same-length-3 Inv-loop μ-loop
+same-length-3 c = search needs
+
+-- src/main.rt:96:1
+returns : tie.Need-returns Inv-loop μ-loop
+returns c = search needs
+
+pub run-spec : {M : Type 1} → statement M
+run-spec =
+    tie.close
+    (tie.spec
+    Inv-loop
+    μ-loop
+    loop-holds
+    read-chart-requires
+    sub-answer
+    part-answer-start
+    part-answer-end
+    answer-requires
+    sub-left
+    loop-less
+    loop-again
+    loop-less-2
+    loop-again-2
+    same-length
+    same-length-2
+    same-length-3
+    returns)
