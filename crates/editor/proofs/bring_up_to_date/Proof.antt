@@ -1,0 +1,99 @@
+-- `editor::bring_up_to_date` meets its contract. Assumes nothing.
+use mathlib.Core.Path.{sym, ap, _∙_}
+use Prim.Native.Nat.{_+_, _-_, min, max}
+use native.Mathlib.Omega.{arith}
+use Rattle.tables.specs.Parts.{fill}
+use Rattle.objects.specs.declared.Layout.{Layout}
+use Rattle.records.specs.Fill.{filledRange}
+use Rattle.opening.specs.Header.{settingsOf}
+use Rattle.evaluators.specs.Values.{valuesOf, valuesIn}
+use Rattle.calls.proofs.Bridge.{records-edited}
+use Rattle.editor.proofs.Outcomes.{values-edited}
+use Rattle.editor.proofs.Fits.{fits}
+use borrow.Author.Needs.{needs}
+use Rattle.editor.proofs.bring_up_to_date.Statement.{statement}
+use Rattle.editor.proofs.bring_up_to_date.Tie as tie
+
+layout-of-requires : tie.Need-layout-of-requires
+layout-of-requires c κs =
+    fits _ _ _ (c .before .before .before .pre .0) .long
+
+settings-at-requires : tie.Need-settings-at-requires
+settings-at-requires c κs =
+    fits _ _ _ (c .before .before .before .before .pre .0) .long
+
+from-one-requires : tie.Need-from-one-requires
+from-one-requires c κs = search needs
+
+add-smaller : tie.Need-add-smaller
+add-smaller c =
+    let f = fits _ _ _ (c .before .before .before .before .before .before .pre .0) in omega (arith, f .few, c .before .before .before .before .before .before .pre .1)
+
+smaller-requires : tie.Need-smaller-requires
+smaller-requires c κs = search needs
+
+fill-range-requires : tie.Need-fill-range-requires
+fill-range-requires c κs =
+    let f = fits _ _ _ (c .before .before .before .before .before .before .before .before .pre .0) in
+    let l = ap (λ (x : Layout). x .n) (c .before .before .before .before .layout-of .ensures) in
+    (rw (c .before .before .before .before .layout-of .ensures) (f .ready), omega (arith, c .before .before .from-one .ensures), omega (arith, c .before .smaller .ensures), omega (arith, c .before .smaller .ensures, f .records, l))
+
+before-requires : tie.Need-before-requires
+before-requires c κs = search needs
+
+from-one-requires-2 : tie.Need-from-one-requires-2
+from-one-requires-2 c κs = search needs
+
+add-smaller-2 : tie.Need-add-smaller-2
+add-smaller-2 c =
+    let f = fits _ _ _ (c .before .before .before .before .before .before .before .before .before .before .before .before .before .before .before .pre .0) in omega (arith, f .few, c .before .before .before .before .before .before .before .before .before .before .before .before .before .before .before .pre .1)
+
+smaller-requires-2 : tie.Need-smaller-requires-2
+smaller-requires-2 c κs = search needs
+
+fill-values-requires : tie.Need-fill-values-requires
+fill-values-requires c κs =
+    let f = fits _ _ _ (c .before .before .before .before .before .before .before .before .before .before .before .before .before .before .before .before .pre .0) in
+    let l = ap (λ (x : Layout). x .n) (c .before .before .before .before .before .before .before .before .before .before .before .before .layout-of .ensures) in
+    (rw (c .before .before .before .before .before .before .before .before .before .before .before .before .layout-of .ensures) (f .ready), omega (arith, c .before .before .before .from-one2 .ensures), omega (arith, c .smaller2 .ensures), omega (arith, f .records, l), omega (arith, f .values, l))
+
+same-length : tie.Need-same-length
+same-length c = search needs
+
+same-length-2 : tie.Need-same-length-2
+same-length-2 c = search needs
+
+returns : tie.Need-returns
+returns c =
+    let a = c .before .before .before .before .before .before .before .before .before .before .before .before .before .before .before .before .before .before .before .args in
+    let b = a .chart .now in
+    let k = a .place in
+    let l = c .before .before .before .before .before .before .before .before .before .before .before .before .before .before .before .layout-of .ensures in
+    let s = c .before .before .before .before .before .before .before .before .before .before .before .before .before .before .settings-at .ensures in
+    let from = c .before .before .before .before .before .before .from-one2 .ensures ∙ ap (max 1) (c .before .before .before .before .before .before .before .before2 .ensures) in
+    let to = c .before .before .before .before .before .before .before .before .before .before .before .before .smaller .ensures ∙ ap (λ (x : Layout). min (k + 3) (x .n)) l in
+    let to2 = c .before .before .before .smaller2 .ensures ∙ ap (λ (x : Layout). min (k + 34) (x .n)) l in (
+      c .before .before .before .before .before .before .before .before .before .before .fill-range .ensures
+          ∙ ((λ i. filledRange b (l i) (s i) (c .before .before .before .before .before .before .before .before .before .before .before .before .before .from-one .ensures i) (to i) (a .records .now)) ∙ sym (records-edited valuesOf (settingsOf b) b k (a .records .now))),
+      c .before .before .fill-values .ensures
+          ∙ ((λ i. fill 5 (valuesIn (s i) b (l i) (c .before .before .before .before .before .before .before .before .before .before .fill-range .last .1 .1 .1 .1 .1 .0)) (from i) (to2 i - from i) (a .values .now)) ∙ sym (values-edited (settingsOf b) b k (c .before .before .before .before .before .before .before .before .before .before .fill-range .last .1 .1 .1 .1 .1 .0) (a .values .now))),
+    )
+
+pub bring-up-to-date-spec : {M : Type 1} → statement M
+bring-up-to-date-spec =
+    tie.close
+    (tie.spec
+    layout-of-requires
+    settings-at-requires
+    from-one-requires
+    add-smaller
+    smaller-requires
+    fill-range-requires
+    before-requires
+    from-one-requires-2
+    add-smaller-2
+    smaller-requires-2
+    fill-values-requires
+    same-length
+    same-length-2
+    returns)

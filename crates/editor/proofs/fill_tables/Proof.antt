@@ -1,0 +1,64 @@
+-- `editor::fill_tables` meets its contract. Assumes nothing.
+use mathlib.Core.Path.{sym, _∙_}
+use Prim.Native.Nat.{_-_}
+use native.Mathlib.Omega.{arith}
+use Rattle.tables.specs.Parts.{fill}
+use Rattle.records.specs.Fill.{filled}
+use Rattle.opening.specs.Header.{settingsOf}
+use Rattle.evaluators.specs.Values.{valuesOf, valuesIn}
+use Rattle.calls.specs.Calls.{opened, openRecords}
+use Rattle.calls.proofs.Bridge.{records-opened}
+use Rattle.editor.specs.Rules.{rules}
+use Rattle.editor.proofs.Outcomes.{values-opened}
+use Rattle.editor.proofs.Fits.{fits}
+use borrow.Author.Needs.{needs}
+use Rattle.editor.proofs.fill_tables.Statement.{statement}
+use Rattle.editor.proofs.fill_tables.Tie as tie
+
+layout-of-requires : tie.Need-layout-of-requires
+layout-of-requires c κs =
+    fits _ _ _ (c .before .before .before .pre) .long
+
+settings-at-requires : tie.Need-settings-at-requires
+settings-at-requires c κs =
+    fits _ _ _ (c .before .before .before .before .pre) .long
+
+fill-requires : tie.Need-fill-requires
+fill-requires c κs =
+    let f = fits _ _ _ (c .before .before .before .before .before .before .pre) in rw (c .before .before .layout-of .ensures) (f .ready, f .records)
+
+fill-values-requires : tie.Need-fill-values-requires
+fill-values-requires c κs =
+    let f = fits _ _ _ (c .before .before .before .before .before .before .before .before .before .before .before .pre) in rw (c .before .before .before .before .before .before .before .layout-of .ensures) (f .ready, omega arith, omega arith, omega (arith, f .records), f .values)
+
+same-length : tie.Need-same-length
+same-length c = search needs
+
+same-length-2 : tie.Need-same-length-2
+same-length-2 c = search needs
+
+returns : tie.Need-returns
+unfolding opened
+returns c =
+    let a = c .before .before .before .before .before .before .before .before .before .before .before .before .before .before .args in
+    let b = a .chart .now in
+    let l = c .before .before .before .before .before .before .before .before .before .before .layout-of .ensures in
+    let s = c .before .before .before .before .before .before .before .before .before .settings-at .ensures in
+    let r = c .before .before .before .before .before .before .before .fill .ensures ∙ ((λ i. filled b (l i) (s i) (a .records .now)) ∙ sym (records-opened valuesOf (settingsOf b) b (a .records .now))) in (
+      r,
+      c .before .before .fill-values .ensures
+          ∙ ((λ i. fill 5 (valuesIn (s i) b (l i) (r i)) 1 (l i .n - 1) (a .values .now))
+          ∙ sym (values-opened (settingsOf b) b (openRecords rules (settingsOf b) b (a .records .now)) (a .values .now))),
+    )
+
+pub fill-tables-spec : {M : Type 1} → statement M
+fill-tables-spec =
+    tie.close
+    (tie.spec
+    layout-of-requires
+    settings-at-requires
+    fill-requires
+    fill-values-requires
+    same-length
+    same-length-2
+    returns)

@@ -1,0 +1,266 @@
+// The station's calls on a chart and its two tables. Nothing is assumed of the caller: each call answers the first condition of its list
+// that is met and changes nothing, or is carried out.
+ghost use mathlib.Core.Path.{_≡_};
+ghost use mathlib.Core.List.{[]};
+ghost use Prim.Native.Nat.{_+_, _*_, _/_, _-_, _<_, _≤_, min, max};
+ghost use lib.ListN.{length};
+ghost use Rattle.tables.specs.Parts.{row};
+ghost use Rattle.evaluators.specs.Values.{rowOf};
+ghost use Rattle.opening.specs.Header.{layoutOf, settingsOf};
+ghost use Rattle.opening.specs.Verdict.{verdict};
+ghost use Rattle.opening.specs.declared.Verdict.the-variants.{Accepted};
+ghost use Rattle.calls.specs.Conditions as conditions;
+ghost use Rattle.calls.specs.Conditions.{scratchShort};
+ghost use Rattle.calls.specs.Calls.{outcome, opened, openOutcome, totalsOutcome, editRecords, editValues};
+ghost use Rattle.calls.specs.Verdicts.{metBy, entriesOf, readVerdict, totalsVerdict};
+ghost use Rattle.editor.specs.Rules.{rules};
+ghost use Rattle.editor.specs.Answers.{replaceAnswer, recordAnswer, valuesAnswer, totalsAnswer, scratchOf};
+use evaluators::Values;
+use object::OsuDifficultyObject;
+use opening::Refusal;
+use opening::Verdict;
+use skills::Skills;
+
+// A record of the table, or why it is not read.
+pub enum RecordAnswer {
+    Record(OsuDifficultyObject),
+    Refused(Refusal),
+}
+
+// The five values of a place, or why they are not read.
+pub enum ValuesAnswer {
+    Values(Values),
+    Refused(Refusal),
+}
+
+// The four totals, or why they are not worked out.
+pub enum TotalsAnswer {
+    Totals(Skills),
+    Refused(Refusal),
+}
+
+// How many whole entries both tables have.
+fn entries_in(records: usize, values: usize) -> usize
+    ensures { λ r. ⌜ r ≡ entriesOf records values ⌝ }
+{
+    smaller(records / 16, values / 5)
+}
+
+// The later of 1 and k.
+fn from_one(k: usize) -> usize
+    ensures { λ r. ⌜ r ≡ max 1 k ⌝ }
+{
+    if k < 1 { 1 } else { k }
+}
+
+fn smaller(a: usize, b: usize) -> usize
+    ensures { λ r. ⌜ r ≡ min a b ⌝ }
+{
+    if b < a { b } else { a }
+}
+
+// The place before k, 0 for the first.
+fn before(k: usize) -> usize
+    ensures { λ r. ⌜ r ≡ k - 1 ⌝ }
+{
+    if 0 < k { k - 1 } else { 0 }
+}
+
+// Fills entries 1 to N - 1 of an accepted chart's tables.
+fn fill_tables(chart: &[u8], records: &mut [f64], values: &mut [f64])
+    requires { ⌜ verdict (now chart) (entriesOf (length (now records)) (length (now values))) ≡ Accepted ⌝ }
+    ensures records { λ _. ⌜ now (records .exit) ≡ opened rules (now (chart .entry)) (now (records .entry)) (now (values .entry)) .records ⌝ }
+    ensures values { λ _. ⌜ now (values .exit) ≡ opened rules (now (chart .entry)) (now (records .entry)) (now (values .entry)) .values ⌝ }
+{
+    let lay = opening::layout_of(chart);
+    let set = opening::settings_at(chart, 32);
+    records::fill(chart, lay, set, records);
+    evaluators::fill_values(values, records, chart, lay, set, 1, lay.n);
+}
+
+// Checks a chart and fills its tables.
+pub fn open(chart: &[u8], records: &mut [f64], values: &mut [f64]) -> Verdict
+    ensures answer { λ r. ⌜ metBy r ≡ openOutcome rules (now (chart .entry)) (now (records .entry)) (now (values .entry)) .0 ⌝ }
+    ensures records { λ _. ⌜ now (records .exit) ≡ openOutcome rules (now (chart .entry)) (now (records .entry)) (now (values .entry)) .1 .records ⌝ }
+    ensures values { λ _. ⌜ now (values .exit) ≡ openOutcome rules (now (chart .entry)) (now (records .entry)) (now (values .entry)) .1 .values ⌝ }
+{
+    match opening::check(chart, entries_in(records.len(), values.len())) {
+        Verdict::Refused(r) => Verdict::Refused(r),
+        Verdict::Accepted => {
+            fill_tables(chart, records, values);
+            Verdict::Accepted
+        }
+    }
+}
+
+// Makes anew what an object put at a place can have changed: records k to k + 2 from the chart, and values k - 1 to k + 33 from the records.
+fn bring_up_to_date(chart: &[u8], place: usize, records: &mut [f64], values: &mut [f64])
+    requires { ⌜ (verdict (now chart) (entriesOf (length (now records)) (length (now values))) ≡ Accepted) × (place < layoutOf (now chart) .n) ⌝ }
+    ensures records { λ _. ⌜ now (records .exit) ≡ editRecords rules (settingsOf (now (chart .entry))) (now (chart .entry)) place (now (records .entry)) ⌝ }
+    ensures values { λ _. ⌜ now (values .exit) ≡ editValues rules (settingsOf (now (chart .entry))) (now (chart .entry)) place (now (records .exit)) (now (values .entry)) ⌝ }
+{
+    let lay = opening::layout_of(chart);
+    let set = opening::settings_at(chart, 32);
+    let n = lay.n;
+    records::fill_range(
+        chart,
+        lay,
+        set,
+        from_one(place),
+        smaller(place + 3, n),
+        records,
+    );
+    let from = from_one(before(place));
+    evaluators::fill_values(
+        values,
+        records,
+        chart,
+        lay,
+        set,
+        from,
+        smaller(place + 34, n),
+    );
+}
+
+// Puts an object at a place of the chart and brings both tables up to date.
+pub fn replace(
+    chart: &mut [u8],
+    place: usize,
+    object: &[u8],
+    records: &mut [f64],
+    values: &mut [f64],
+) -> Verdict
+    ensures answer { λ r. ⌜ replaceAnswer r ≡ outcome rules (conditions.replace place (now (object .entry))) (now (chart .entry)) (now (records .entry)) (now (values .entry)) .answer ⌝ }
+    ensures chart { λ _. ⌜ now (chart .exit) ≡ outcome rules (conditions.replace place (now (object .entry))) (now (chart .entry)) (now (records .entry)) (now (values .entry)) .chart ⌝ }
+    ensures records { λ _. ⌜ now (records .exit) ≡ outcome rules (conditions.replace place (now (object .entry))) (now (chart .entry)) (now (records .entry)) (now (values .entry)) .records ⌝ }
+    ensures values { λ _. ⌜ now (values .exit) ≡ outcome rules (conditions.replace place (now (object .entry))) (now (chart .entry)) (now (records .entry)) (now (values .entry)) .values ⌝ }
+{
+    match replacing::replace(
+        chart,
+        place,
+        object,
+        entries_in(records.len(), values.len()),
+    ) {
+        Verdict::Refused(r) => Verdict::Refused(r),
+        Verdict::Accepted => {
+            bring_up_to_date(chart, place, records, values);
+            Verdict::Accepted
+        }
+    }
+}
+
+// Conditions 1, 7 and 8 of a reading, for a table of as many entries.
+fn check_reading(chart: &[u8], entries: usize, place: usize) -> Verdict
+    ensures { λ r. ⌜ r ≡ readVerdict (now (chart .entry)) entries place ⌝ }
+{
+    if !opening::header_ok(chart) {
+        return Verdict::Refused(Refusal::Header);
+    }
+    let lay = opening::layout_of(chart);
+    if entries < lay.n {
+        return Verdict::Refused(Refusal::Table);
+    }
+    if (0 < place) & (place < lay.n) {
+        return Verdict::Accepted;
+    }
+    Verdict::Refused(Refusal::Place)
+}
+
+// The record of a place, as the table has it.
+pub fn read_record(chart: &[u8], records: &[f64], place: usize) -> RecordAnswer
+    ensures { λ r. ⌜ recordAnswer r ≡ outcome rules (conditions.readRecord place) (now (chart .entry)) (now (records .entry)) [] .answer ⌝ }
+{
+    match check_reading(chart, records.len() / 16, place) {
+        Verdict::Refused(r) => RecordAnswer::Refused(r),
+        Verdict::Accepted => RecordAnswer::Record(records::record_at(records, place)),
+    }
+}
+
+// A row of the value table.
+fn row_at(values: &[f64], place: usize) -> Values
+    requires { ⌜ (place < 65536) × (5 * place + 5 ≤ length (now values)) ⌝ }
+    ensures { λ r. ⌜ rowOf r ≡ row 5 (now (values .entry)) place ⌝ }
+{
+    let at = 5 * place;
+    Values {
+        aim: values[at],
+        aim_no_sliders: values[at + 1],
+        speed: values[at + 2],
+        rhythm: values[at + 3],
+        flashlight: values[at + 4],
+    }
+}
+
+// The values of a place, as the table has them.
+pub fn read_values(chart: &[u8], values: &[f64], place: usize) -> ValuesAnswer
+    ensures { λ r. ⌜ valuesAnswer r ≡ outcome rules (conditions.readValue place) (now (chart .entry)) [] (now (values .entry)) .answer ⌝ }
+{
+    match check_reading(chart, values.len() / 5, place) {
+        Verdict::Refused(r) => ValuesAnswer::Refused(r),
+        Verdict::Accepted => ValuesAnswer::Values(row_at(values, place)),
+    }
+}
+
+// Whether a slice of scratch is too short.
+fn scratch_short(aim: usize, aim_no_sliders: usize, speed: usize, flashlight: usize) -> bool
+    ensures { λ r. ⌜ r ≡ scratchShort aim «aim_no_sliders» speed flashlight ⌝ }
+{
+    (aim < 8192) | ((aim_no_sliders < 8192) | ((speed < 8192) | (flashlight < 8192)))
+}
+
+// Conditions 1 to 7 of totals, for a table of as many entries.
+fn check_totals(chart: &[u8], entries: usize, short: bool) -> Verdict
+    ensures { λ r. ⌜ r ≡ totalsVerdict (now (chart .entry)) entries short ⌝ }
+{
+    match opening::check(chart, entries) {
+        Verdict::Refused(r) => Verdict::Refused(r),
+        Verdict::Accepted => {
+            if short {
+                Verdict::Refused(Refusal::Table)
+            } else {
+                Verdict::Accepted
+            }
+        }
+    }
+}
+
+// The four totals, over the values in the table; times come from the chart. Carried out, all scratch is 0.
+pub fn totals(
+    chart: &[u8],
+    values: &[f64],
+    aim: &mut [f64],
+    aim_no_sliders: &mut [f64],
+    speed: &mut [f64],
+    flashlight: &mut [f64],
+) -> TotalsAnswer
+    ensures answer { λ r. ⌜ totalsAnswer r ≡ totalsOutcome rules (scratchOf (now (aim .entry)) (now («aim_no_sliders» .entry)) (now (speed .entry)) (now (flashlight .entry))) (now (chart .entry)) (now (values .entry)) .0 .answer ⌝ }
+    ensures aim { λ _. ⌜ now (aim .exit) ≡ totalsOutcome rules (scratchOf (now (aim .entry)) (now («aim_no_sliders» .entry)) (now (speed .entry)) (now (flashlight .entry))) (now (chart .entry)) (now (values .entry)) .1 .aim ⌝ }
+    ensures still { λ _. ⌜ now («aim_no_sliders» .exit) ≡ totalsOutcome rules (scratchOf (now (aim .entry)) (now («aim_no_sliders» .entry)) (now (speed .entry)) (now (flashlight .entry))) (now (chart .entry)) (now (values .entry)) .1 .aimNoSliders ⌝ }
+    ensures speed { λ _. ⌜ now (speed .exit) ≡ totalsOutcome rules (scratchOf (now (aim .entry)) (now («aim_no_sliders» .entry)) (now (speed .entry)) (now (flashlight .entry))) (now (chart .entry)) (now (values .entry)) .1 .speed ⌝ }
+    ensures light { λ _. ⌜ now (flashlight .exit) ≡ totalsOutcome rules (scratchOf (now (aim .entry)) (now («aim_no_sliders» .entry)) (now (speed .entry)) (now (flashlight .entry))) (now (chart .entry)) (now (values .entry)) .1 .flashlight ⌝ }
+{
+    let short = scratch_short(
+        aim.len(),
+        aim_no_sliders.len(),
+        speed.len(),
+        flashlight.len(),
+    );
+    match check_totals(chart, values.len() / 5, short) {
+        Verdict::Refused(r) => TotalsAnswer::Refused(r),
+        Verdict::Accepted => {
+            let lay = opening::layout_of(chart);
+            let clock = opening::settings_at(chart, 32).clock_rate;
+            let t = skills::totals(
+                chart,
+                lay,
+                clock,
+                values,
+                aim,
+                aim_no_sliders,
+                speed,
+                flashlight,
+            );
+            TotalsAnswer::Totals(t)
+        }
+    }
+}
