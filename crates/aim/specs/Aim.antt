@@ -8,7 +8,7 @@ use Rattle.floats.specs.Numbers.{_⊕_, _⊖_, _⊗_, _⊘_, zero64, one64, two
 use Rattle.floats.specs.Compare.{maxOf, minOf, absOf}
 use Rattle.elementary.specs.Power.{powerOf}
 use Rattle.angle.specs.Float.{radiansOf}
-use Rattle.util.specs.Difficulty.{minute, reverseLerp, smoothstep, smootherstep}
+use Rattle.util.specs.Difficulty.{millisecondsToBpm, reverseLerp, smoothstep, smootherstep}
 use Rattle.util.specs.FloatExt.{notEq}
 use Rattle.pos.specs.declared.Pos.{Pos}
 use Rattle.pos.specs.Pos.{_⊖₃_, _-ₚ_, lengthOf}
@@ -46,12 +46,12 @@ acuteAngle angle = smoothstep angle (radiansOf wideDegrees) (radiansOf acuteDegr
 unfoldable pub acuteRepeated : Float → Float → Float
 acuteRepeated bonus last = bonus ⊗ (acuteKept ⊕ acuteLost ⊗ (one64 ⊖ minOf bonus (powerOf (acuteAngle last) three64)))
 
--- only where rhythms are the same; `milliseconds_to_bpm` with two parts to a beat
+-- only where rhythms are the same; a beat has two parts here
 unfoldable pub acuteOf : OsuDifficultyObject → OsuDifficultyObject → Float → Float
 acuteOf curr last base =
     let a = curr .«adjusted_delta_time» in
     let b = last .«adjusted_delta_time» in
-    let fast = smootherstep (minute ⊘ (a ⊗ two64)) acuteBpm fullAcuteBpm in
+    let fast = smootherstep (millisecondsToBpm a two64) acuteBpm fullAcuteBpm in
     let far = smootherstep (curr .«lazy_jump_dist») diameter twoDiameters in
     cond (Ieee.lt (maxOf a b) (fiveQuarters ⊗ minOf a b)) (acuteRepeated (acuteAngle (curr .angle)) (last .angle) ⊗ (base ⊗ fast ⊗ far)) zero64
 

@@ -101,8 +101,8 @@ fn acute(curr: OsuDifficultyObject, last: OsuDifficultyObject, angle_bonus: f64)
     let b = last.adjusted_delta_time;
     if floats::max(a, b) < 1.25 * floats::min(a, b) {
         let bonus = acute_repeated(calc_acute_angle_bonus(curr.angle), last.angle);
-        // milliseconds_to_bpm with two parts to a beat
-        let fast = util::difficulty::smootherstep(60000.0 / (a * 2.0), 300.0, 400.0);
+        let bpm = util::difficulty::milliseconds_to_bpm(a, 2.0);
+        let fast = util::difficulty::smootherstep(bpm, 300.0, 400.0);
         let far = util::difficulty::smootherstep(
             curr.lazy_jump_dist,
             DIAMETER as f64,

@@ -6,7 +6,7 @@ use mathlib.Core.Option.{Option, none, some}
 use lib.Ieee.{Float}
 use lib.ListN.{length}
 use Rattle.tables.specs.Parts.{fill}
-use Rattle.opening.specs.Header.{layoutOf, settingsOf}
+use Rattle.opening.specs.Header.{layoutOf}
 use Rattle.opening.specs.Verdict.{numberOf, placeOf, verdict}
 use Rattle.opening.specs.declared.Settings.{Settings}
 use Rattle.opening.specs.declared.Refusal.{Refusal}

@@ -21,8 +21,8 @@ fn of_one(f: u8, x: f64) -> f64 {
         b'R' => whole::rem_two(x),
         b'a' => floats::abs(x),
         b'd' => angle::to_radians(x),
-        b'b' => util::difficulty::bpm_to_milliseconds(x),
-        b'B' => util::difficulty::milliseconds_to_bpm(x),
+        b'b' => util::difficulty::bpm_to_milliseconds(x, util::difficulty::DEFAULT_DELIMITER),
+        b'B' => util::difficulty::milliseconds_to_bpm(x, util::difficulty::DEFAULT_DELIMITER),
         _ => x,
     }
 }

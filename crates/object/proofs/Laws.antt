@@ -1,6 +1,6 @@
 -- What a record takes from its objects and its place. Assumes nothing.
 use Prim.Native.Nat.{ℕ, zero, suc, _-_, _<_, min}
-use mathlib.Core.Path.{_≡_, refl, sym, ap, subst, _∙_}
+use mathlib.Core.Path.{_≡_, refl, ap, _∙_}
 use mathlib.Core.Bool.{Bool, true, false, cond}
 use mathlib.Core.List.{List}
 use native.Mathlib.Omega.{arith}

@@ -16,7 +16,6 @@ use Rattle.osu_object.proofs.Reading.{base-is}
 use Rattle.object.specs.Cursor.{sliderCursor}
 use Rattle.object.specs.Record.{plainOf, slidOf, placedBy, placedOf}
 use Rattle.object.specs.declared.cursor.Cursor.{Cursor}
-use Rattle.object.specs.declared.Placed.{Placed}
 
 placed-by : (radius : Float) (o : Object) (k : OsuObjectKind) → o .base .kind ≡ k → placedOf radius o ≡ placedBy k radius o
 unfolding placedOf

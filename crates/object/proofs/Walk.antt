@@ -1,6 +1,6 @@
 -- The last tick, and one turn of the walk over a slider's entries. Assumes nothing.
 use Prim.Native.Nat.{ℕ, zero, suc, _-_, _<_}
-use mathlib.Core.Path.{_≡_, refl, sym, ap, _∙_}
+use mathlib.Core.Path.{_≡_, sym, ap, _∙_}
 use mathlib.Core.List.{List}
 use mathlib.Core.Bool.{true, false}
 use borrow.Author.Tests.{eq-eqb, ne-eqb}
@@ -13,7 +13,6 @@ use Rattle.entries.specs.declared.Nested.{Nested}
 use Rattle.pos.specs.declared.Pos.{Pos}
 use Rattle.osu_object.specs.Osu.{nestedIn}
 use Rattle.object.specs.Cursor.{lastTick, movedBy, trackingOf, orderOf, stepOf, runOf}
-use Rattle.object.specs.declared.cursor.Tracking.{Tracking}
 use Rattle.object.specs.declared.cursor.CursorState.{CursorState}
 
 module _ (ns : List Nested) (stack : Pos) (factor : Float) (moved n : ℕ) (len : length ns ≡ n) where

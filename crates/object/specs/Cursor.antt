@@ -1,6 +1,6 @@
 -- The cursor of a slider, from the object, its nested entries and its points alone: `compute_slider_cursor_pos` of src/osu/difficulty/object.rs.
 use Prim.Native.Nat.{ℕ, zero, suc, _+_, _-_}
-use mathlib.Core.Bool.{Bool, true, false, cond}
+use mathlib.Core.Bool.{Bool, true, cond}
 use mathlib.Core.List.{List}
 use lib.Dec.{ltb, eqb}
 use lib.ListN.{length}

@@ -1,6 +1,6 @@
 -- The object record, from the settings and three objects: `OsuDifficultyObject::new` and `set_distances` of src/osu/difficulty/object.rs.
 use Prim.Native.Nat.{ℕ, _-_, min}
-use mathlib.Core.Bool.{Bool, true, false, cond, not, _&&_, _||_}
+use mathlib.Core.Bool.{true, false, cond, not, _&&_, _||_}
 use mathlib.Core.List.{List}
 use lib.Dec.{ltb}
 use lib.IntN.{pos}
@@ -20,7 +20,6 @@ use Rattle.osu_object.specs.declared.OsuObjectKind.{OsuObjectKind}
 use Rattle.osu_object.specs.declared.OsuObjectKind.the-variants.{Circle, Spinner, Slider}
 use Rattle.object.specs.Constants.{maxSliderRadius, assumedSliderRadius, minDeltaTime, smallRadius, smallRadiusScale, repeatScale}
 use Rattle.object.specs.Cursor.{sliderCursor}
-use Rattle.object.specs.declared.cursor.Cursor.{Cursor}
 use Rattle.object.specs.declared.Placed.{Placed}
 use Rattle.object.specs.declared.Travel.{Travel}
 use Rattle.object.specs.declared.Jump.{Jump}

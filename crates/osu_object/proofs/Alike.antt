@@ -1,15 +1,14 @@
 -- Two objects, of one chart or of two, that agree in every field but the firsts and in their entries are the same object. Assumes nothing.
 use Prim.Native.Nat.{ℕ, zero, suc, _+_, _<_}
-use mathlib.Core.Path.{_≡_, refl, sym, ap, _∙_}
-use mathlib.Core.List.{List, [], _∷_}
+use mathlib.Core.Path.{_≡_, refl, ap, _∙_}
+use mathlib.Core.List.{List}
 use native.Mathlib.Omega.{arith}
 use Rattle.objects.specs.Objects.{fieldsOf}
 use Rattle.objects.specs.declared.Layout.{Layout}
 use Rattle.entries.specs.Entries.{nestedOf, pointOf}
 use Rattle.entries.specs.declared.Nested.{Nested}
 use Rattle.entries.specs.declared.Point.{Point}
-use Rattle.osu_object.specs.Osu.{listFrom, nestedList, pointList, Object, objectOf, osuObject, runsOf}
-use Rattle.osu_object.specs.declared.Runs.{Runs}
+use Rattle.osu_object.specs.Osu.{listFrom, Object, objectOf, osuObject, runsOf}
 use Rattle.osu_object.specs.declared.OsuObject.{OsuObject}
 
 pub list-same : {A : Type 0} (f g : ℕ → A) (i j n : ℕ) → ((k : ℕ) → k < n → f (i + k) ≡ g (j + k)) → listFrom f i n ≡ listFrom g j n

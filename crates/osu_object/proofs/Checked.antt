@@ -1,6 +1,6 @@
 -- A chart at which conditions 3 and 4 hold nowhere is ready: its sliders have their entries in the tables. Assumes nothing.
 use Prim.Native.Nat.{ℕ, _+_, _≤_, _<_}
-use mathlib.Core.Path.{_≡_, refl, sym, ap, subst, _∙_}
+use mathlib.Core.Path.{_≡_, refl, sym, _∙_}
 use mathlib.Core.Bool.{Bool, true, false, cond, not, _&&_, _||_, and-eq-true-iff}
 use mathlib.Core.List.{List}
 use lib.Dec.{leb, eqb}
@@ -11,10 +11,10 @@ use native.Mathlib.Omega.{arith}
 use borrow.Author.Tests.{leb-true, eqb-true, eq-eqb, not-false}
 use Rattle.objects.specs.Search.{firstBelow}
 use Rattle.floats.specs.Numbers.{f64}
-use Rattle.objects.specs.Objects.{Holds, fieldsOf, timeOk, coordinateOk, stackOk, countOk, plainOk, sliderOk, kindOk, fieldsOk, badFields}
+use Rattle.objects.specs.Objects.{Holds, fieldsOf, timeOk, coordinateOk, stackOk, countOk, sliderOk, kindOk, fieldsOk, badFields}
 use Rattle.objects.specs.declared.Fields.{Fields}
 use Rattle.objects.specs.declared.Layout.{Layout}
-use Rattle.entries.specs.Entries.{nestedBad, pointBad, runsOk, badEntries}
+use Rattle.entries.specs.Entries.{nestedBad, runsOk, badEntries}
 use Rattle.osu_object.specs.Osu.{kindOf, runsOf, isSlider, Slides, Ready}
 use Rattle.osu_object.specs.declared.OsuObjectKind.the-variants.{Circle, Spinner, Slider}
 

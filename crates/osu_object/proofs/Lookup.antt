@@ -1,13 +1,12 @@
 -- The lookup on a path, from what the calls of `position_at` answer. Assumes nothing.
 use Prim.Native.Nat.{ℕ, _-_}
-use mathlib.Core.Path.{_≡_, refl, sym, ap, _∙_}
+use mathlib.Core.Path.{_≡_, sym, ap, _∙_}
 use mathlib.Core.List.{List}
 use lib.ListN.{length}
 use lib.Ieee.{Float}
 use borrow.Author.Tests.{eq-eqb, ne-eqb}
 use Rattle.floats.specs.Numbers.{_⊗_}
 use Rattle.entries.specs.declared.Point.{Point}
-use Rattle.pos.specs.declared.Pos.{Pos}
 use Rattle.osu_object.specs.Osu.{pointIn}
 use Rattle.osu_object.specs.Path.{pointPos, segmentOf, between, lookupAt, lookup, positionAt}
 

@@ -7,7 +7,7 @@ use lib.Dec.{eqb}
 use lib.ListN.{getD, length}
 use lib.IntN.{pos}
 use lib.Ieee as Ieee
-use lib.Ieee.{Float, nan, binary64}
+use lib.Ieee.{nan, binary64}
 use Rattle.objects.specs.Objects.{Holds, fieldsOf}
 use Rattle.objects.specs.declared.Fields.{Fields}
 use Rattle.objects.specs.declared.Layout.{Layout}

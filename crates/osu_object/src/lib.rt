@@ -1,9 +1,8 @@
 // An object of the chart, with its nested entries and the points of its path (src/osu/object.rs).
 ghost use mathlib.Core.Path.{_≡_};
 ghost use mathlib.Core.Bool.{true};
-ghost use Prim.Native.Nat.{_+_, _-_, _<_, _≤_};
-ghost use lib.ListN.{getD, length};
-ghost use Rattle.objects.specs.Objects.{Holds, fieldsOf};
+ghost use Prim.Native.Nat.{_+_, _-_, _<_};
+ghost use lib.ListN.{length};
 ghost use Rattle.osu_object.specs.Osu.{kindOf, osuObject, runsOf, objectOf, stackedPos, isSlider, isSpinner};
 ghost use Rattle.osu_object.specs.Osu.{Slides, Ready, nestedList, pointList, nestedIn, pointIn, isRepeat, repeatCount, tailOf, endPos, stackedEndPos};
 ghost use Rattle.osu_object.specs.Base.{baseOf, repeatsOf};

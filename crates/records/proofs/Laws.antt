@@ -1,5 +1,5 @@
 -- Laws of the table: what an entry holds after a store. Assumes nothing.
-use Prim.Native.Nat.{ℕ, zero, suc, _+_, _*_, _-_, _≤_, _<_}
+use Prim.Native.Nat.{ℕ, suc, _+_, _*_, _-_, _≤_, _<_}
 use native.Mathlib.Nat.{add-zero, add-suc}
 use native.Mathlib.Omega.{arith}
 use mathlib.Core.Path.{_≡_, refl, sym, ap, _∙_}
@@ -9,7 +9,7 @@ use lib.ListN.{length, getD, set, take, drop}
 use lib.Seq.{sets, getD-take, getD-drop}
 use lib.Ieee.{Float, nan, ne, eq, ofBits, binary32}
 use Rattle.whole.specs.Narrow.{narrow}
-use Rattle.tables.specs.Parts.{part, put, row}
+use Rattle.tables.specs.Parts.{part, row}
 use Rattle.tables.specs.Rows.{sets-put, row-put-same, row-put-other}
 use Rattle.object.specs.declared.OsuDifficultyObject.{OsuDifficultyObject}
 use Rattle.records.specs.Rows.{numberOf, flagOf, recordFrom, rowOf, recordAt, putRecord}

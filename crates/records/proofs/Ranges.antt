@@ -1,6 +1,6 @@
 -- What a table holds after records of a range are filled in: theirs there, and what it held elsewhere. Assumes nothing.
 use Prim.Native.Nat.{ℕ, _+_, _*_, _-_, min, _≤_, _<_}
-use mathlib.Core.Path.{_≡_, sym, subst}
+use mathlib.Core.Path.{_≡_}
 use mathlib.Core.List.{List}
 use native.Mathlib.Omega.{arith}
 use lib.ListN.{length}

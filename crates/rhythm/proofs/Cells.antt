@@ -3,12 +3,11 @@ use Prim.Native.Nat.{ℕ, zero, suc}
 use mathlib.Core.Path.{_≡_, refl}
 use native.Mathlib.Omega.{arith}
 use borrow.Author.Tests.{ne-eqb}
-use mathlib.Core.Bool.{Bool, true, false, cond, not, _&&_}
+use mathlib.Core.Bool.{cond, not, _&&_}
 use lib.Dec.{eqb}
 use lib.Ieee.{Float}
 use Rattle.objects.specs.declared.Fields.{Fields}
 use Rattle.osu_object.specs.Osu.{kindOf, isSlider, isSpinner}
-use Rattle.osu_object.specs.declared.OsuObjectKind.{OsuObjectKind}
 use Rattle.osu_object.specs.declared.OsuObjectKind.the-variants.{Circle, Spinner, Slider}
 
 pub slider-is : (f : Fields) → eqb (f .kind) 1 ≡ isSlider (kindOf f)

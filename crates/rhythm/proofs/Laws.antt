@@ -1,7 +1,7 @@
 -- What the rhythm value reads, and that the part lent gives what the whole table gives. Assumes nothing.
-use Prim.Native.Nat.{ℕ, zero, suc, _+_, _*_, _-_, min, max, _≤_, _<_}
+use Prim.Native.Nat.{ℕ, zero, suc, _+_, _*_, _-_, min, _≤_, _<_}
 use native.Mathlib.Omega.{arith}
-use mathlib.Core.Path.{_≡_, refl, sym, ap, _∙_}
+use mathlib.Core.Path.{_≡_, refl, ap}
 use mathlib.Core.Bool.{Bool, true, false, cond}
 use mathlib.Core.List.{List}
 use borrow.Author.Tests.{ltb-true}
@@ -14,10 +14,9 @@ use Rattle.osu_object.specs.Osu.{Object}
 use Rattle.osu_object.specs.Base.{baseOf}
 use Rattle.object.specs.declared.OsuDifficultyObject.{OsuDifficultyObject}
 use Rattle.records.specs.Rows.{recordAt}
-use Rattle.speed.specs.Part.{firstOf, lastOf, partAt, Lent}
-use Rattle.speed.proofs.Laws.{lentPart, part-at}
-use Rattle.rhythm.specs.declared.RhythmState.{RhythmState}
-use Rattle.rhythm.specs.declared.Cell.{Cell}
+use Rattle.sight.specs.Part.{firstPlace, endPlace, partAt, Covers}
+use Rattle.sight.proofs.Parts.{partOf, part-at, last-place}
+use Rattle.rhythm.specs.Step.{Walk}
 use Rattle.rhythm.specs.Constants.{historyTimeMax}
 use Rattle.rhythm.specs.Rhythm.{View, runOf, nearOf, startFrom, startOf, rhythmOf, cellOf, cellsOf, countBefore, rhythmAtPlace}
 
@@ -50,7 +49,7 @@ module _ (v w : View) (hist : ℕ) (same : (k : ℕ) → k ≤ hist → v k ≡ 
       go true e false f = h
       go false e c f = h
 
-  run-same : (window eps : Float) (k : ℕ) (s : RhythmState) → k ≤ hist - 2 → runOf v hist window eps k s ≡ runOf w hist window eps k s
+  run-same : (window eps : Float) (k : ℕ) (s : Walk) → k ≤ hist - 2 → runOf v hist window eps k s ≡ runOf w hist window eps k s
   unfolding runOf
   run-same window eps zero s h = refl
   run-same window eps (suc k) s h =
@@ -80,33 +79,33 @@ rhythm-same os ps rs qs last end j i window before cells has next =
 -- ---- the part that is lent
 
 -- it reaches as far back as the history
-pub back-in : {t : List Float} {a b j : ℕ} (hist : ℕ) → Lent t a b j → hist ≡ countBefore j → a + hist ≤ j
+pub back-in : {t : List Float} {a b j : ℕ} (hist : ℕ) → Covers t a b j → hist ≡ countBefore j → a + hist ≤ j
 back-in hist h e = omega (arith, h .some, h .from, h .far)
 
 pub hist-few : (j hist : ℕ) → hist ≡ countBefore j → hist ≤ 32
 hist-few j hist e = omega arith
 
-pub here-in : {t : List Float} {a b j : ℕ} → Lent t a b j → 16 * (j - a) + 16 ≤ length t
+pub here-in : {t : List Float} {a b j : ℕ} → Covers t a b j → 16 * (j - a) + 16 ≤ length t
 here-in h = omega (arith, h .from, h .to, h .room)
 
-pub next-in : {t : List Float} {a b j : ℕ} → Lent t a b j → j < b → (j + 1 - a < 65536) × (16 * (j + 1 - a) + 16 ≤ length t)
+pub next-in : {t : List Float} {a b j : ℕ} → Covers t a b j → j < b → (j + 1 - a < 65536) × (16 * (j + 1 - a) + 16 ≤ length t)
 next-in h l = (omega (arith, h .few), omega (arith, h .from, h .room))
 
 pub few-steps : (from k hist : ℕ) → hist ≤ 32 → from ≤ hist - 2 → from - k ≤ 31
 few-steps from k hist h l = omega arith
 
-place-back : (j a k : ℕ) → 1 ≤ j → a ≡ firstOf j → k ≤ countBefore j → a ≤ j - k
+place-back : (j a k : ℕ) → 1 ≤ j → a ≡ firstPlace j → k ≤ countBefore j → a ≤ j - k
 place-back j a k one f h = omega arith
 
-place-in : (j b n k : ℕ) → j < n → b ≡ lastOf j n → j - k ≤ b
-place-in j b n k inside l = omega arith
+place-in : (j e n k : ℕ) → j < n → e ≡ endPlace j n → j - k < e
+place-in j e n k inside l = omega arith
 
 -- what the part lent at place j of n gives
-pub rhythm-part : (os : ℕ → Object) (t : List Float) (a b j n : ℕ) (window : Float) → 1 ≤ j → j < n → a ≡ firstOf j → b ≡ lastOf j n
-    → rhythmAtPlace os (partAt (lentPart t a b) a) b j window ≡ rhythmAtPlace os (recordAt t) (lastOf j n) j window
-rhythm-part os t a b j n window one inside f l =
-    rw (← l)
-    (rhythm-same os os (partAt (lentPart t a b) a) (recordAt t) b b j j window refl
-    (λ k h. ap (cellOf (baseOf (os (j - k)))) (part-at t a b (j - k) (place-back j a k one f h) (place-in j b n k inside l)))
+pub rhythm-part : (os : ℕ → Object) (t : List Float) (a e j n : ℕ) (window : Float) → 1 ≤ j → j < n → a ≡ firstPlace j → e ≡ endPlace j n
+    → rhythmAtPlace os (partAt (partOf t a e) a) (e - 1) j window ≡ rhythmAtPlace os (recordAt t) (min (j + 1) (n - 1)) j window
+rhythm-part os t a e j n window one inside f l =
+    rw (← last-place j n e inside l)
+    (rhythm-same os os (partAt (partOf t a e) a) (recordAt t) (e - 1) (e - 1) j j window refl
+    (λ k h. ap (cellOf (baseOf (os (j - k)))) (part-at t a e (j - k) (place-back j a k one f h) (place-in j e n k inside l)))
     refl
-    (λ h. ap (λ (r : OsuDifficultyObject). r .«delta_time») (part-at t a b (j + 1) (omega arith) (omega arith))))
+    (λ h. ap (λ (r : OsuDifficultyObject). r .«delta_time») (part-at t a e (j + 1) (omega arith) (omega arith))))

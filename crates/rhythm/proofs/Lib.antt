@@ -1,5 +1,7 @@
 pub mod Signed
 pub mod Cells
+pub mod Entries
 pub mod Search
+pub mod Good
 pub mod History
 pub mod Laws

@@ -1,34 +1,39 @@
 -- The search for an island, one place at a time; and a small number as a float.
 use Prim.Native.Nat.{ℕ, suc, _+_, _-_, _^_, _≤_, _<_}
 use native.Mathlib.Omega.{arith}
-use native.Mathlib.Nat.{add-zero}
-use mathlib.Core.Path.{_≡_, refl, sym, ap, _∙_}
-use mathlib.Core.Bool.{Bool, true, false, cond}
+use mathlib.Core.Path.{_≡_, refl}
+use mathlib.Core.Bool.{Bool, true, false}
 use mathlib.Core.List.{List}
-use lib.Dec.{T, leb, le→leb}
+use lib.Dec.{T, le→leb}
 use lib.ListN.{getD}
 use lib.IntN.{pos}
 use lib.Ieee.{binary64, inFloat}
 use Rattle.rhythm.specs.declared.RhythmIsland.{RhythmIsland}
 use Rattle.rhythm.specs.declared.IslandCount.{IslandCount}
 use Rattle.rhythm.specs.Island.{sameOf}
-use Rattle.rhythm.specs.Rhythm.{findFrom, noCount}
+use Rattle.rhythm.specs.Counts.{findFrom, bumpedOf, noCount}
 
-module _ (cs : List IslandCount) (n i : ℕ) (s : RhythmIsland) where
+module _ (es : List IslandCount) (n i : ℕ) (s : RhythmIsland) where
   left : i < n → n - i ≡ suc (n - (i + 1))
   left h = omega arith
 
-  pub find-stop : i < n → sameOf (getD cs i noCount .island) s ≡ true → findFrom cs (n - i) i s ≡ i
+  pub find-stop : (e : IslandCount) → i < n → e ≡ getD es i noCount → sameOf (e .island) s ≡ true → findFrom es (n - i) i s ≡ i
   unfolding findFrom
-  find-stop h e = rw (left h, e)
+  find-stop e h g t = rw (left h, ← g, t)
 
-  pub find-more : i < n → sameOf (getD cs i noCount .island) s ≡ false → findFrom cs (n - i) i s ≡ findFrom cs (n - (i + 1)) (i + 1) s
+  pub find-more : (e : IslandCount) → i < n → e ≡ getD es i noCount → sameOf (e .island) s ≡ false → findFrom es (n - i) i s ≡ findFrom es (n - (i + 1)) (i + 1) s
   unfolding findFrom
-  find-more h e = rw (left h, e)
+  find-more e h g t = rw (left h, ← g, t)
 
-  pub find-end : n ≤ i → findFrom cs (n - i) i s ≡ i
+  pub find-end : n ≤ i → findFrom es (n - i) i s ≡ i
   unfolding findFrom
   find-end h = let e : n - i ≡ 0 = omega arith in rw e
+
+-- what stands at a place keeps its island
+pub bumped-island : (e : IslandCount) (more : Bool) → bumpedOf e more .island ≡ e .island
+unfolding bumpedOf
+bumped-island e true = refl
+bumped-island e false = refl
 
 pub small-float : (n : ℕ) → n ≤ 1000 → T (inFloat binary64 (pos n))
 unfolding inFloat

@@ -1,10 +1,8 @@
 -- RhythmIsland of evaluators/rhythm.rs.
-use Prim.Native.Nat.{ℕ, suc, _+_, _-_, _≤_, _<_}
+use Prim.Native.Nat.{ℕ, _+_, _-_, _≤_}
 use mathlib.Core.Path.{_≡_}
-use mathlib.Core.Bool.{Bool, true, false, cond, _&&_}
-use mathlib.Core.List.{List}
+use mathlib.Core.Bool.{Bool, true, false, cond}
 use lib.Dec.{eqb}
-use lib.ListN.{getD}
 use lib.IntN.{ℤ, pos, natAbs, _+ℤ_, _-ℤ_}
 use lib.Signed.{ltZ, remZ, nonNeg}
 use lib.Ieee as Ieee
@@ -15,7 +13,6 @@ use Rattle.floats.specs.Compare.{absOf}
 use Rattle.util.specs.FloatExt.{epsilon}
 use Rattle.rhythm.specs.Constants.{minDeltaTime, largest}
 use Rattle.rhythm.specs.declared.RhythmIsland.{RhythmIsland}
-use Rattle.rhythm.specs.declared.IslandCount.{IslandCount}
 
 -- two i32 are equal: the test that the machine makes, of their bits
 abbrev pub eqI : ℤ → ℤ → Bool

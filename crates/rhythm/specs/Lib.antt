@@ -1,3 +1,5 @@
 pub mod Constants
 pub mod Island
+pub mod Counts
+pub mod Step
 pub mod Rhythm

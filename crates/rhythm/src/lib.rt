@@ -1,17 +1,18 @@
 // The rhythm evaluator: evaluators/rhythm.rs.
 ghost use mathlib.Core.Path.{_≡_};
-ghost use mathlib.Core.Bool.{true};
+ghost use mathlib.Core.Bool.{true, cond};
 ghost use Prim.Native.Nat.{_+_, _*_, _-_, min, _≤_, _<_};
-ghost use lib.ListN.{length};
+ghost use lib.ListN.{getD, set, length};
 ghost use lib.Signed.{nonNeg};
 ghost use Rattle.objects.specs.Objects.{Holds, fieldsOf};
 ghost use Rattle.osu_object.specs.Osu.{Ready, objectOf};
 ghost use Rattle.osu_object.specs.Base.{baseOf};
 ghost use Rattle.records.specs.Rows.{recordAt};
-ghost use Rattle.speed.specs.Part.{Lent, partAt};
+ghost use Rattle.sight.specs.Part.{Covers, partAt};
 ghost use Rattle.rhythm.specs.Island.{maxZ, distZ, newIsland, newWithDelta, settledOf, addDelta, similarOf, defaultOf, sameOf, IslandOk};
-ghost use Rattle.rhythm.specs.Rhythm.{scaledOf, effectiveOf, decayOf, factorOf, fasterTwice, findFrom, bumpedOf, pushedOf, repeatedOf, countedOf};
-ghost use Rattle.rhythm.specs.Rhythm.{freshState, progressedOf, beganOf, switchRatio, lastRatio, switchedOf, switchStep, stepBy, stepOf, CountOk, Each, Good};
+ghost use Rattle.rhythm.specs.Counts.{entriesOf, noCount, findFrom, placeOf, bumpedOf, entryOf, CountOk, CountsOk};
+ghost use Rattle.rhythm.specs.Step.{scaledOf, effectiveOf, decayOf, fasterTwice, switchRatio, factorOf, lastRatio, progressedOf, beganOf, switchedOf};
+ghost use Rattle.rhythm.specs.Step.{walkOf, freshState, freshWalk, switchStep, stepBy, stepOf, Good};
 ghost use Rattle.rhythm.specs.Rhythm.{runOf, startOf, valueOf, cellOf, cellsOf, countBefore, rhythmAtPlace};
 use objects::Layout;
 
@@ -25,7 +26,13 @@ const RHYTHM_RATIO_MULTIPLIER: f64 = 15.0;
 
 const MIN_DELTA_TIME: i32 = 25;
 
+// i32::MAX.
 const LARGEST: i32 = 2147483647;
+
+// f64::EPSILON.
+const EPSILON: f64 = 0.0000000000000002220446049250313;
+
+const LEAST_DELTA: f64 = 0.0000001;
 
 pub struct RhythmIsland {
     pub delta_difference_eps: f64,
@@ -38,13 +45,13 @@ pub struct IslandCount {
     pub count: u32,
 }
 
+// What the turns of the loop carry beside the island counts, of which there are n.
 pub struct RhythmState {
     pub island: RhythmIsland,
     pub prev_island: RhythmIsland,
     pub first_delta_switch: bool,
     pub start_ratio: f64,
     pub sum: f64,
-    pub counts: [IslandCount; 32],
     pub n: usize,
 }
 
@@ -56,12 +63,11 @@ pub struct Cell {
     pub spinner: bool,
 }
 
-// The island counts after a switch, and the factor where the island is a repeated one.
-pub struct Counted {
-    pub counts: [IslandCount; 32],
-    pub n: usize,
-    pub repeated: bool,
-    pub factor: f64,
+// The delta times of three records in a row.
+pub struct Deltas {
+    pub curr: f64,
+    pub prev: f64,
+    pub last: f64,
 }
 
 fn max_i32(a: i32, b: i32) -> i32
@@ -77,6 +83,7 @@ fn dist_i32(a: i32, b: i32) -> i32
     if a < b { b - a } else { a - b }
 }
 
+// The delta that `add_delta` leaves.
 fn settled(kept: i32, delta: i32) -> i32
     ensures { λ r. ⌜ r ≡ settledOf kept delta ⌝ }
 {
@@ -88,7 +95,7 @@ fn settled(kept: i32, delta: i32) -> i32
 }
 
 impl RhythmIsland {
-    pub fn new(eps: f64) -> Self
+    fn new(eps: f64) -> Self
         ensures { λ r. ⌜ r ≡ newIsland eps ⌝ }
     {
         Self {
@@ -98,7 +105,7 @@ impl RhythmIsland {
         }
     }
 
-    pub fn new_with_delta(delta: i32, eps: f64) -> Self
+    fn new_with_delta(delta: i32, eps: f64) -> Self
         ensures { λ r. ⌜ r ≡ newWithDelta delta eps ⌝ }
     {
         Self {
@@ -108,7 +115,7 @@ impl RhythmIsland {
         }
     }
 
-    pub fn add_delta(self, delta: i32) -> Self
+    fn add_delta(self, delta: i32) -> Self
         requires { ⌜ IslandOk 31 self ⌝ }
         ensures { λ r. ⌜ r ≡ addDelta self delta ⌝ }
     {
@@ -121,7 +128,7 @@ impl RhythmIsland {
         }
     }
 
-    pub fn is_similar_polarity(self, other: RhythmIsland) -> bool
+    fn is_similar_polarity(self, other: RhythmIsland) -> bool
         requires { ⌜ (nonNeg (self .«delta_count») ≡ true) × (nonNeg (other .«delta_count») ≡ true) ⌝ }
         ensures { λ r. ⌜ r ≡ similarOf self other ⌝ }
     {
@@ -130,19 +137,21 @@ impl RhythmIsland {
         a % 2 == b % 2
     }
 
-    pub fn is_default(self) -> bool
+    // It never holds, since `new` sets a delta of 0.
+    fn is_default(self) -> bool
         ensures { λ r. ⌜ r ≡ defaultOf self ⌝ }
     {
         let delta = self.delta;
         let count = self.delta_count;
-        if floats::abs(self.delta_difference_eps) < 0.0000000000000002220446049250313 {
+        if floats::abs(self.delta_difference_eps) < EPSILON {
             if delta == LARGEST { count == 0 } else { false }
         } else {
             false
         }
     }
 
-    pub fn same(self, other: RhythmIsland) -> bool
+    // `PartialEq`: by the tolerance of the left one.
+    fn same(self, other: RhythmIsland) -> bool
         requires { ⌜ (nonNeg (self .delta) ≡ true) × (nonNeg (other .delta) ≡ true) ⌝ }
         ensures { λ r. ⌜ r ≡ sameOf self other ⌝ }
     {
@@ -181,6 +190,7 @@ fn effective(prev: f64, curr: f64, eps: f64) -> f64
     penalty * ratio * multiplier
 }
 
+// How much the record k places back counts, of hist that may.
 fn decay(start: f64, other: f64, hist: usize, k: usize) -> f64
     requires { ⌜ (k ≤ hist) × (hist ≤ 32) ⌝ }
     ensures { λ r. ⌜ r ≡ decayOf start other hist k ⌝ }
@@ -190,16 +200,18 @@ fn decay(start: f64, other: f64, hist: usize, k: usize) -> f64
     floats::min(note_decay, time_decay)
 }
 
-fn faster_twice(last: f64, prev: f64, curr: f64, eps: f64) -> bool
-    ensures { λ r. ⌜ r ≡ fasterTwice last prev curr eps ⌝ }
+// The previous increase of speed happened a note ago.
+fn faster_twice(d: Deltas, eps: f64) -> bool
+    ensures { λ r. ⌜ r ≡ fasterTwice d eps ⌝ }
 {
-    if last > prev + eps {
-        prev > curr + eps
+    if d.last > d.prev + eps {
+        d.prev > d.curr + eps
     } else {
         false
     }
 }
 
+// For an island that was counted so often.
 fn factor(delta: i32, count: u32) -> f64
     ensures { λ r. ⌜ r ≡ factorOf delta count ⌝ }
 {
@@ -208,14 +220,62 @@ fn factor(delta: i32, count: u32) -> f64
     floats::min(3.0 / n, elementary::power(1.0 / n, power))
 }
 
-// The place of the first entry whose island equals `island`; n where there is none.
-fn find(counts: [IslandCount; 32], n: usize, island: RhythmIsland) -> usize
-    requires { ⌜ (n ≤ 32) × (nonNeg (island .delta) ≡ true) × (Each 31 counts) ⌝ }
-    ensures { λ r. ⌜ r ≡ findFrom counts n 0 island ⌝ }
+// Entry i of the island counts. They are kept as an array of numbers for each field, and share eps.
+fn entry_at(
+    deltas: &[i32; 32],
+    delta_counts: &[i32; 32],
+    counts: &[u32; 32],
+    eps: f64,
+    i: usize,
+) -> IslandCount
+    requires { ⌜ (i < 32) × (length (entriesOf eps (now deltas) (now «delta_counts») (now counts)) ≡ 32) ⌝ }
+    ensures { λ r. ⌜ (r ≡ getD (entriesOf eps (now (deltas .entry)) (now («delta_counts» .entry)) (now (counts .entry))) i noCount) × (r .island .«delta_difference_eps» ≡ eps) ⌝ }
+{
+    let island = RhythmIsland {
+        delta_difference_eps: eps,
+        delta: deltas[i],
+        delta_count: delta_counts[i],
+    };
+    IslandCount {
+        island,
+        count: counts[i],
+    }
+}
+
+// Entry i of the island counts becomes e.
+fn put_entry(
+    deltas: &mut [i32; 32],
+    delta_counts: &mut [i32; 32],
+    counts: &mut [u32; 32],
+    i: usize,
+    e: IslandCount,
+)
+    requires { ⌜ i < 32 ⌝ }
+    ensures { λ _. ⌜ entriesOf (e .island .«delta_difference_eps») (now (deltas .exit)) (now («delta_counts» .exit)) (now (counts .exit)) ≡ set (entriesOf (e .island .«delta_difference_eps») (now (deltas .entry)) (now («delta_counts» .entry)) (now (counts .entry))) i e ⌝ }
+{
+    let island = e.island;
+    let delta = island.delta;
+    let delta_count = island.delta_count;
+    deltas[i] = delta;
+    delta_counts[i] = delta_count;
+    counts[i] = e.count;
+}
+
+// The place of the first entry whose island equals the given one; n where there is none.
+fn find(
+    deltas: &[i32; 32],
+    delta_counts: &[i32; 32],
+    counts: &[u32; 32],
+    n: usize,
+    island: RhythmIsland,
+    eps: f64,
+) -> usize
+    requires { ⌜ (n ≤ 32) × (nonNeg (island .delta) ≡ true) × (CountsOk 31 (entriesOf eps (now deltas) (now «delta_counts») (now counts))) ⌝ }
+    ensures { λ r. ⌜ (r ≡ findFrom (entriesOf eps (now (deltas .entry)) (now («delta_counts» .entry)) (now (counts .entry))) n 0 island) × (r ≤ n) ⌝ }
 {
     let mut i: usize = 0;
     while i < n {
-        let entry = counts[i];
+        let entry = entry_at(deltas, delta_counts, counts, eps, i);
         let other = entry.island;
         if other.same(island) {
             return i;
@@ -225,6 +285,31 @@ fn find(counts: [IslandCount; 32], n: usize, island: RhythmIsland) -> usize
     i
 }
 
+// The place of an island that is counted already; n where it is new.
+fn place_of(
+    deltas: &[i32; 32],
+    delta_counts: &[i32; 32],
+    counts: &[u32; 32],
+    n: usize,
+    island: RhythmIsland,
+    eps: f64,
+) -> usize
+    requires { ⌜ (n ≤ 32) × (nonNeg (island .delta) ≡ true) × (CountsOk 31 (entriesOf eps (now deltas) (now «delta_counts») (now counts))) ⌝ }
+    ensures { λ r. ⌜ (r ≡ placeOf (entriesOf eps (now (deltas .entry)) (now («delta_counts» .entry)) (now (counts .entry))) n island) × (r ≤ n) ⌝ }
+{
+    let at = find(deltas, delta_counts, counts, n, island, eps);
+    if at < n {
+        let entry = entry_at(deltas, delta_counts, counts, eps, at);
+        let found = entry.island;
+        if found.is_default() {
+            return n;
+        }
+        return at;
+    }
+    n
+}
+
+// Counted once more, where the island goes after an equal one.
 fn bumped(e: IslandCount, more: bool) -> IslandCount
     requires { ⌜ CountOk 31 e ⌝ }
     ensures { λ r. ⌜ r ≡ bumpedOf e more ⌝ }
@@ -240,65 +325,25 @@ fn bumped(e: IslandCount, more: bool) -> IslandCount
     }
 }
 
-fn pushed(counts: [IslandCount; 32], n: usize, island: RhythmIsland) -> Counted
-    requires { ⌜ n < 32 ⌝ }
-    ensures { λ r. ⌜ r ≡ pushedOf counts n island ⌝ }
-{
-    let entry = IslandCount { island, count: 1 };
-    let mut next = counts;
-    next[n] = entry;
-    Counted {
-        counts: next,
-        n: n + 1,
-        repeated: false,
-        factor: 0.0,
-    }
-}
-
-fn repeated(
-    counts: [IslandCount; 32],
+// What is to stand at an island's place.
+fn entry_of(
+    deltas: &[i32; 32],
+    delta_counts: &[i32; 32],
+    counts: &[u32; 32],
     n: usize,
     at: usize,
     island: RhythmIsland,
-    more: bool,
-) -> Counted
-    requires { ⌜ (at < 32) × (Each 31 counts) ⌝ }
-    ensures { λ r. ⌜ r ≡ repeatedOf counts n at island more ⌝ }
-{
-    let old = counts[at];
-    let entry = bumped(old, more);
-    let mut next = counts;
-    next[at] = entry;
-    Counted {
-        counts: next,
-        n,
-        repeated: true,
-        factor: factor(island.delta, entry.count),
-    }
-}
-
-fn count_island(
-    counts: [IslandCount; 32],
-    n: usize,
-    island: RhythmIsland,
     prev: RhythmIsland,
-) -> Counted
-    requires { ⌜ (n < 32) × (IslandOk 31 island) × (IslandOk 31 prev) × (Each 31 counts) ⌝ }
-    ensures { λ r. ⌜ r ≡ countedOf counts n island prev ⌝ }
+    eps: f64,
+) -> IslandCount
+    requires { ⌜ (n ≤ 32) × (IslandOk 31 island) × (island .«delta_difference_eps» ≡ eps) × (IslandOk 31 prev) × (CountsOk 31 (entriesOf eps (now deltas) (now «delta_counts») (now counts))) ⌝ }
+    ensures { λ r. ⌜ (r ≡ entryOf (entriesOf eps (now (deltas .entry)) (now («delta_counts» .entry)) (now (counts .entry))) n at island prev) × (r .island .«delta_difference_eps» ≡ eps) ⌝ }
 {
-    let at = find(counts, n, island);
     if at < n {
-        let entry = counts[at];
-        let found = entry.island;
-        if found.is_default() {
-            pushed(counts, n, island)
-        } else {
-            let more = prev.same(island);
-            repeated(counts, n, at, island, more)
-        }
-    } else {
-        pushed(counts, n, island)
+        let entry = entry_at(deltas, delta_counts, counts, eps, at);
+        return bumped(entry, prev.same(island));
     }
+    IslandCount { island, count: 1 }
 }
 
 // The ratio of a switch before the island counts.
@@ -320,27 +365,35 @@ fn switch_ratio(
 }
 
 // The ratio after the counts and the doubletap penalty.
-fn last_ratio(ratio: f64, c: Counted, tap: f64) -> f64
-    ensures { λ r. ⌜ r ≡ lastRatio ratio c tap ⌝ }
+fn last_ratio(ratio: f64, repeated: bool, delta: i32, count: u32, tap: f64) -> f64
+    ensures { λ r. ⌜ r ≡ lastRatio ratio repeated delta count tap ⌝ }
 {
-    scaled(ratio, c.repeated, c.factor) * (1.0 - tap * 0.75)
+    if repeated {
+        return ratio * factor(delta, count) * (1.0 - tap * 0.75);
+    }
+    ratio * (1.0 - tap * 0.75)
+}
+
+// How many entries there are after a switch.
+fn entries_after(n: usize, repeated: bool) -> usize
+    requires { ⌜ n < 32 ⌝ }
+    ensures { λ r. ⌜ r ≡ cond repeated n (n + 1) ⌝ }
+{
+    if repeated { n } else { n + 1 }
 }
 
 impl RhythmState {
-    pub fn new(eps: f64) -> Self
+    fn new(eps: f64) -> Self
         ensures { λ r. ⌜ r ≡ freshState eps ⌝ }
     {
         let island = RhythmIsland::new(eps);
         let prev_island = RhythmIsland::new(eps);
-        let entry = IslandCount { island, count: 0 };
-        let counts = [entry; 32];
         Self {
             island,
             prev_island,
             first_delta_switch: false,
             start_ratio: 0.0,
             sum: 0.0,
-            counts,
             n: 0,
         }
     }
@@ -370,12 +423,20 @@ impl RhythmState {
     }
 
     // A switch: the island ends, and another begins.
-    fn switched(self, ratio: f64, c: Counted, on: bool, decay: f64, delta: i32, eps: f64) -> Self
-        ensures { λ r. ⌜ r ≡ switchedOf self ratio c on decay delta eps ⌝ }
+    fn switched(
+        self,
+        ratio: f64,
+        repeated: bool,
+        on: bool,
+        decay: f64,
+        delta: i32,
+        eps: f64,
+    ) -> Self
+        requires { ⌜ self .n < 32 ⌝ }
+        ensures { λ r. ⌜ r ≡ switchedOf self ratio repeated on decay delta eps ⌝ }
     {
         let island = RhythmIsland::new_with_delta(delta, eps);
         let prev_island = self.island;
-        let counts = c.counts;
         let root = roots::root64(ratio * self.start_ratio);
         Self {
             island,
@@ -383,91 +444,112 @@ impl RhythmState {
             first_delta_switch: on,
             start_ratio: ratio,
             sum: self.sum + root * decay,
-            counts,
-            n: c.n,
+            n: entries_after(self.n, repeated),
         }
     }
 
+    // The delta changes while an island is counted.
     fn switch_step(
         self,
+        deltas: &mut [i32; 32],
+        delta_counts: &mut [i32; 32],
+        counts: &mut [u32; 32],
         ratio: f64,
-        curr_delta: f64,
-        prev_delta: f64,
-        last_delta: f64,
+        d: Deltas,
         curr: Cell,
         prev: Cell,
         decay: f64,
         window: f64,
         eps: f64,
     ) -> Self
-        requires { ⌜ Good 31 self ⌝ }
-        ensures { λ r. ⌜ r ≡ switchStep self ratio «curr_delta» «prev_delta» «last_delta» curr prev decay window eps ⌝ }
+        requires { ⌜ Good 31 eps (walkOf self eps (now deltas) (now «delta_counts») (now counts)) ⌝ }
+        ensures { λ r. ⌜ walkOf r eps (now (deltas .exit)) (now («delta_counts» .exit)) (now (counts .exit)) ≡ switchStep (walkOf self eps (now (deltas .entry)) (now («delta_counts» .entry)) (now (counts .entry))) ratio d curr prev decay window eps ⌝ }
     {
+        let n = self.n;
         let island = self.island;
         let prev_island = self.prev_island;
-        let counts = self.counts;
-        let c = count_island(counts, self.n, island, prev_island);
+        let i = place_of(deltas, delta_counts, counts, n, island, eps);
+        let e = entry_of(deltas, delta_counts, counts, n, i, island, prev_island, eps);
+        put_entry(deltas, delta_counts, counts, i, e);
         let similar = island.is_similar_polarity(prev_island);
-        let faster = faster_twice(last_delta, prev_delta, curr_delta, eps);
+        let faster = faster_twice(d, eps);
         let equal = prev_island.delta_count == island.delta_count;
         let r = switch_ratio(ratio, curr.slider, prev.slider, similar, faster, equal);
         let tap_window = object::window_of(prev.spinner, window);
         let tap = object::tapness(prev.delta_time, curr.delta_time, tap_window);
-        let last = last_ratio(r, c, tap);
-        let on = !(prev_delta + eps < curr_delta);
-        self.switched(last, c, on, decay, whole::to_i32(curr_delta), eps)
+        let repeated = i < n;
+        let last = last_ratio(r, repeated, island.delta, e.count, tap);
+        let on = !(d.prev + eps < d.curr);
+        self.switched(last, repeated, on, decay, whole::to_i32(d.curr), eps)
     }
 
+    // By the deltas.
     fn step_by(
         self,
-        curr_delta: f64,
-        prev_delta: f64,
-        last_delta: f64,
+        deltas: &mut [i32; 32],
+        delta_counts: &mut [i32; 32],
+        counts: &mut [u32; 32],
+        d: Deltas,
         curr: Cell,
         prev: Cell,
         decay: f64,
         window: f64,
         eps: f64,
     ) -> Self
-        requires { ⌜ Good 31 self ⌝ }
-        ensures { λ r. ⌜ r ≡ stepBy self «curr_delta» «prev_delta» «last_delta» curr prev decay window eps ⌝ }
+        requires { ⌜ Good 31 eps (walkOf self eps (now deltas) (now «delta_counts») (now counts)) ⌝ }
+        ensures { λ r. ⌜ walkOf r eps (now (deltas .exit)) (now («delta_counts» .exit)) (now (counts .exit)) ≡ stepBy (walkOf self eps (now (deltas .entry)) (now («delta_counts» .entry)) (now (counts .entry))) d curr prev decay window eps ⌝ }
     {
-        let ratio = effective(prev_delta, curr_delta, eps);
+        let ratio = effective(d.prev, d.curr, eps);
         if self.first_delta_switch {
-            if floats::abs(prev_delta - curr_delta) < eps {
-                self.progressed(whole::to_i32(curr_delta))
-            } else {
-                self.switch_step(
-                    ratio,
-                    curr_delta,
-                    prev_delta,
-                    last_delta,
-                    curr,
-                    prev,
-                    decay,
-                    window,
-                    eps,
-                )
+            if floats::abs(d.prev - d.curr) < eps {
+                return self.progressed(whole::to_i32(d.curr));
             }
-        } else if prev_delta > curr_delta + eps {
-            let r = scaled(scaled(ratio, curr.slider, 0.6), prev.slider, 0.6);
-            self.began(r, whole::to_i32(curr_delta), eps)
-        } else {
-            self
+            return self.switch_step(
+                deltas,
+                delta_counts,
+                counts,
+                ratio,
+                d,
+                curr,
+                prev,
+                decay,
+                window,
+                eps,
+            );
         }
+        if d.prev > d.curr + eps {
+            let r = scaled(scaled(ratio, curr.slider, 0.6), prev.slider, 0.6);
+            return self.began(r, whole::to_i32(d.curr), eps);
+        }
+        self
     }
 
-    pub fn step(self, curr: Cell, prev: Cell, last: Cell, decay: f64, window: f64, eps: f64) -> Self
-        requires { ⌜ Good 31 self ⌝ }
-        ensures { λ r. ⌜ r ≡ stepOf self curr prev last decay window eps ⌝ }
+    // A turn of the loop.
+    fn step(
+        self,
+        deltas: &mut [i32; 32],
+        delta_counts: &mut [i32; 32],
+        counts: &mut [u32; 32],
+        curr: Cell,
+        prev: Cell,
+        last: Cell,
+        decay: f64,
+        window: f64,
+        eps: f64,
+    ) -> Self
+        requires { ⌜ Good 31 eps (walkOf self eps (now deltas) (now «delta_counts») (now counts)) ⌝ }
+        ensures { λ r. ⌜ walkOf r eps (now (deltas .exit)) (now («delta_counts» .exit)) (now (counts .exit)) ≡ stepOf (walkOf self eps (now (deltas .entry)) (now («delta_counts» .entry)) (now (counts .entry))) curr prev last decay window eps ⌝ }
     {
-        let curr_delta = floats::max(curr.delta_time, 0.0000001);
-        let prev_delta = floats::max(prev.delta_time, 0.0000001);
-        let last_delta = floats::max(last.delta_time, 0.0000001);
+        let d = Deltas {
+            curr: floats::max(curr.delta_time, LEAST_DELTA),
+            prev: floats::max(prev.delta_time, LEAST_DELTA),
+            last: floats::max(last.delta_time, LEAST_DELTA),
+        };
         self.step_by(
-            curr_delta,
-            prev_delta,
-            last_delta,
+            deltas,
+            delta_counts,
+            counts,
+            d,
             curr,
             prev,
             decay,
@@ -500,7 +582,7 @@ fn cell_at(t: &[f64], first: usize, chart: &[u8], lay: Layout, p: usize) -> Cell
     }
 }
 
-// How many records before place j count.
+// How many records before place j count: it is `idx` j - 1.
 fn historical_note_count(j: usize) -> usize
     requires { ⌜ 1 ≤ j ⌝ }
     ensures { λ r. ⌜ r ≡ countBefore j ⌝ }
@@ -512,7 +594,7 @@ fn historical_note_count(j: usize) -> usize
     }
 }
 
-// How far back the history reaches.
+// How many places back the run begins: as far as the history reaches.
 fn rhythm_start(t: &[f64], first: usize, chart: &[u8], lay: Layout, j: usize, hist: usize) -> usize
     requires { ⌜ Ready (now chart) lay × (j < lay .n) × (first + hist ≤ j) × (hist ≤ 32) × (16 * (j - first) + 16 ≤ length (now t)) ⌝ }
     ensures { λ r. ⌜ (r ≡ startOf (cellsOf (objectOf (now (chart .entry)) lay) (partAt (now (t .entry)) first) j) hist) × (r ≤ hist - 2) ⌝ }
@@ -530,7 +612,7 @@ fn rhythm_start(t: &[f64], first: usize, chart: &[u8], lay: Layout, j: usize, hi
     r
 }
 
-// The run through the history, from the furthest record to the one before this.
+// The sum over the history, from the furthest record to the one before this.
 fn run(
     t: &[f64],
     first: usize,
@@ -541,11 +623,14 @@ fn run(
     from: usize,
     window: f64,
     eps: f64,
-) -> RhythmState
+) -> f64
     requires { ⌜ Ready (now chart) lay × (j < lay .n) × (first + hist ≤ j) × (hist ≤ 32) × (16 * (j - first) + 16 ≤ length (now t)) × (from ≤ hist - 2) ⌝ }
-    ensures { λ r. ⌜ r ≡ runOf (cellsOf (objectOf (now (chart .entry)) lay) (partAt (now (t .entry)) first) j) hist window eps from (freshState eps) ⌝ }
+    ensures { λ r. ⌜ r ≡ runOf (cellsOf (objectOf (now (chart .entry)) lay) (partAt (now (t .entry)) first) j) hist window eps from (freshWalk eps) .state .sum ⌝ }
 {
     let here = cell_at(t, first, chart, lay, j);
+    let mut deltas = [0i32; 32];
+    let mut delta_counts = [0i32; 32];
+    let mut counts = [0u32; 32];
     let mut s = RhythmState::new(eps);
     let mut k = from;
     while 0 < k {
@@ -553,12 +638,23 @@ fn run(
         let prev = cell_at(t, first, chart, lay, j - (k + 1));
         let last = cell_at(t, first, chart, lay, j - (k + 2));
         let d = decay(here.start_time, curr.start_time, hist, k);
-        s = s.step(curr, prev, last, d, window, eps);
+        s = s.step(
+            &mut deltas,
+            &mut delta_counts,
+            &mut counts,
+            curr,
+            prev,
+            last,
+            d,
+            window,
+            eps,
+        );
         k -= 1;
     }
-    s
+    s.sum
 }
 
+// From the sum, and the doubletapness with the next record.
 fn value(sum: f64, tap: f64) -> f64
     ensures { λ r. ⌜ r ≡ valueOf sum tap ⌝ }
 {
@@ -575,7 +671,7 @@ pub fn evaluate_diff_of(
     j: usize,
     hit_window: f64,
 ) -> f64
-    requires { ⌜ Ready (now chart) lay × (j < lay .n) × Lent (now t) first last j ⌝ }
+    requires { ⌜ Ready (now chart) lay × (j < lay .n) × Covers (now t) first last j ⌝ }
     ensures { λ r. ⌜ r ≡ rhythmAtPlace (objectOf (now (chart .entry)) lay) (partAt (now (t .entry)) first) last j «hit_window» ⌝ }
 {
     let here = cell_at(t, first, chart, lay, j);
@@ -585,16 +681,14 @@ pub fn evaluate_diff_of(
     let eps = hit_window * 0.3;
     let hist = historical_note_count(j);
     let from = rhythm_start(t, first, chart, lay, j, hist);
-    let s = run(t, first, chart, lay, j, hist, from, hit_window, eps);
+    let sum = run(t, first, chart, lay, j, hist, from, hit_window, eps);
     if j < last {
         let next = records::record_at(t, j + 1 - first);
         let window = object::window_of(here.spinner, hit_window);
-        return value(
-            s.sum,
-            object::tapness(here.delta_time, next.delta_time, window),
-        );
+        let tap = object::tapness(here.delta_time, next.delta_time, window);
+        return value(sum, tap);
     }
-    value(s.sum, 0.0)
+    value(sum, 0.0)
 }
 
 // The value at place j of a whole table: the evaluator is lent the middle of it.
@@ -602,9 +696,9 @@ pub fn evaluate_place(t: &[f64], chart: &[u8], lay: Layout, j: usize, hit_window
     requires { ⌜ Ready (now chart) lay × (1 ≤ j) × (j < lay .n) × (16 * lay .n ≤ length (now t)) ⌝ }
     ensures { λ r. ⌜ r ≡ rhythmAtPlace (objectOf (now (chart .entry)) lay) (recordAt (now (t .entry))) (min (j + 1) (lay .n - 1)) j «hit_window» ⌝ }
 {
-    let first = speed::part::first(j);
-    let last = speed::part::last(j, lay.n);
+    let first = sight::first_place(j);
+    let end = sight::end_place(j, lay.n);
     let from = 16 * first;
-    let to = 16 * (last + 1);
-    evaluate_diff_of(&t[from..to], first, last, chart, lay, j, hit_window)
+    let to = 16 * end;
+    evaluate_diff_of(&t[from..to], first, end - 1, chart, lay, j, hit_window)
 }

@@ -1,38 +1,21 @@
 -- What the speed value reads, and that the part lent gives what the whole table gives. Assumes nothing.
-use Prim.Native.Nat.{ℕ, _+_, _*_, _-_, min, max, _≤_, _<_}
+use Prim.Native.Nat.{ℕ, _+_, _-_, min, _≤_, _<_}
 use native.Mathlib.Omega.{arith}
-use mathlib.Core.Path.{_≡_, refl, ap, _∙_}
+use mathlib.Core.Path.{_≡_, refl, ap}
 use mathlib.Core.Bool.{Bool, true, false, cond}
 use mathlib.Core.List.{List}
 use lib.Dec.{ltb}
-use lib.ListN.{take, drop}
 use lib.Ieee.{Float}
 use borrow.Author.Tests.{ltb-true}
 use Rattle.floats.specs.Numbers.{zero64}
 use Rattle.osu_object.specs.Osu.{Object}
 use Rattle.osu_object.specs.Base.{baseOf}
-use Rattle.osu_object.specs.declared.BaseObject.{BaseObject}
 use Rattle.object.specs.Reading.{tapnessOf, windowOf, doubletapness}
 use Rattle.object.specs.declared.OsuDifficultyObject.{OsuDifficultyObject}
 use Rattle.records.specs.Rows.{recordAt}
-use Rattle.records.proofs.Laws.{record-part}
-use Rattle.speed.specs.Part.{firstOf, lastOf, partAt}
+use Rattle.sight.specs.Part.{firstPlace, endPlace, partAt}
+use Rattle.sight.proofs.Parts.{partOf, part-at, last-place}
 use Rattle.speed.specs.Speed.{speedOf, travelBefore, speedAtPlace}
-
--- ---- the part that is lent
-
--- entries a to b of a table
-abbrev pub lentPart : List Float → ℕ → ℕ → List Float
-lentPart t a b = take (16 * (b + 1) - 16 * a) (drop (16 * a) t)
-
-place-in : (a b p : ℕ) → a ≤ p → p ≤ b → a + (p - a) < b + 1
-place-in a b p h l = omega arith
-
-place-back : (a p : ℕ) → a ≤ p → a + (p - a) ≡ p
-place-back a p h = omega arith
-
-pub part-at : (t : List Float) (a b p : ℕ) → a ≤ p → p ≤ b → partAt (lentPart t a b) a p ≡ recordAt t p
-part-at t a b p h l = record-part t a (b + 1) (p - a) (place-in a b p h l) ∙ ap (recordAt t) (place-back a p h)
 
 -- ---- what is read
 
@@ -80,14 +63,14 @@ speed-same os ps rs qs last end j i window autopilot curr first before has next 
     (λ b. next (ltb-true j last b)))
 
 -- what the part lent at place j of n gives
-pub speed-part : (os : ℕ → Object) (t : List Float) (a b j n : ℕ) (window : Float) (autopilot : Bool) → 1 ≤ j → j < n → a ≡ firstOf j → b ≡ lastOf j n
-    → speedAtPlace os (partAt (lentPart t a b) a) b j window autopilot ≡ speedAtPlace os (recordAt t) (lastOf j n) j window autopilot
-speed-part os t a b j n window autopilot one inside f l =
-    rw (← l)
-    (speed-same os os (partAt (lentPart t a b) a) (recordAt t) b b j j window autopilot
-    (part-at t a b j (omega arith) (omega arith))
+pub speed-part : (os : ℕ → Object) (t : List Float) (a e j n : ℕ) (window : Float) (autopilot : Bool) → 1 ≤ j → j < n → a ≡ firstPlace j → e ≡ endPlace j n
+    → speedAtPlace os (partAt (partOf t a e) a) (e - 1) j window autopilot ≡ speedAtPlace os (recordAt t) (min (j + 1) (n - 1)) j window autopilot
+speed-part os t a e j n window autopilot one inside f l =
+    rw (← last-place j n e inside l)
+    (speed-same os os (partAt (partOf t a e) a) (recordAt t) (e - 1) (e - 1) j j window autopilot
+    (part-at t a e j (omega arith) (omega arith))
     refl
-    (λ h. ap (λ (r : OsuDifficultyObject). r .«travel_dist») (part-at t a b (j - 1) (omega arith) (omega arith)))
+    (λ h. ap (λ (r : OsuDifficultyObject). r .«travel_dist») (part-at t a e (j - 1) (omega arith) (omega arith)))
     refl
-    (λ h. ap (λ (r : OsuDifficultyObject). r .«delta_time») (part-at t a b (j + 1) (omega arith) (omega arith)))
+    (λ h. ap (λ (r : OsuDifficultyObject). r .«delta_time») (part-at t a e (j + 1) (omega arith) (omega arith)))
     refl)

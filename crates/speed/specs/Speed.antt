@@ -8,10 +8,9 @@ use Rattle.floats.specs.Numbers.{_⊕_, _⊖_, _⊗_, _⊘_, zero64, one64, two
 use Rattle.floats.specs.Compare.{minOf, clampOf}
 use Rattle.roots.specs.Root.{rootOf}
 use Rattle.elementary.specs.Power.{powerOf}
-use Rattle.util.specs.Difficulty.{bpmToMilliseconds, millisecondsToBpm}
+use Rattle.util.specs.Difficulty.{defaultDelimiter, bpmToMilliseconds, millisecondsToBpm}
 use Rattle.osu_object.specs.Osu.{Object}
 use Rattle.osu_object.specs.Base.{baseOf}
-use Rattle.osu_object.specs.declared.BaseObject.{BaseObject}
 use Rattle.object.specs.Reading.{doubletapness}
 use Rattle.object.specs.declared.OsuDifficultyObject.{OsuDifficultyObject}
 use Rattle.speed.specs.Constants.{singleSpacingThreshold, minSpeedBonus, speedBalancingFactor, distMultiplier, windowShare, leastCap, bonusScale, distExponent, second}
@@ -21,8 +20,8 @@ strainTime adjusted window = adjusted ⊘ clampOf (adjusted ⊘ window ⊘ windo
 
 unfoldable pub speedBonus : Float → Float
 speedBonus time =
-    cond (Ieee.lt minSpeedBonus (millisecondsToBpm time))
-    (bonusScale ⊗ powerOf ((bpmToMilliseconds minSpeedBonus ⊖ time) ⊘ speedBalancingFactor) two64)
+    cond (Ieee.lt minSpeedBonus (millisecondsToBpm time defaultDelimiter))
+    (bonusScale ⊗ powerOf ((bpmToMilliseconds minSpeedBonus defaultDelimiter ⊖ time) ⊘ speedBalancingFactor) two64)
     zero64
 
 unfoldable pub distBonus : Float → Float → Bool → Float

@@ -4,14 +4,11 @@ ghost use Prim.Native.Nat.{_+_, _*_, _-_, min, _≤_, _<_};
 ghost use lib.ListN.{length};
 ghost use Rattle.records.specs.Rows.{recordAt};
 ghost use Rattle.osu_object.specs.Osu.{Ready, objectOf};
-ghost use Rattle.osu_object.specs.Base.{baseOf};
-ghost use Rattle.speed.specs.Part.{Lent, partAt};
+ghost use Rattle.sight.specs.Part.{Covers, partAt};
 ghost use Rattle.speed.specs.Speed.{strainTime, speedBonus, distBonus, speedOf, travelBefore, speedAtPlace};
 use object::OsuDifficultyObject;
 use objects::Layout;
 use osu_object::OsuObject;
-
-pub mod part;
 
 // 1.25 circles between centres.
 const SINGLE_SPACING_THRESHOLD: f64 = OsuDifficultyObject::NORMALIZED_DIAMETER as f64 * 1.25;
@@ -33,8 +30,13 @@ fn strain_time(adjusted: f64, hit_window: f64) -> f64
 fn speed_bonus(strain_time: f64) -> f64
     ensures { λ r. ⌜ r ≡ speedBonus «strain_time» ⌝ }
 {
-    if util::difficulty::milliseconds_to_bpm(strain_time) > MIN_SPEED_BONUS {
-        let least = util::difficulty::bpm_to_milliseconds(MIN_SPEED_BONUS);
+    if util::difficulty::milliseconds_to_bpm(strain_time, util::difficulty::DEFAULT_DELIMITER)
+        > MIN_SPEED_BONUS
+    {
+        let least = util::difficulty::bpm_to_milliseconds(
+            MIN_SPEED_BONUS,
+            util::difficulty::DEFAULT_DELIMITER,
+        );
         let base = (least - strain_time) / SPEED_BALANCING_FACTOR;
         return 0.75 * elementary::power(base, 2.0);
     }
@@ -70,17 +72,14 @@ fn evaluate(
     let strain_time = strain_time(curr.adjusted_delta_time, hit_window);
     let doubletapness = 1.0 - curr.get_doubletapness(spinner, has_next, next, hit_window);
     let speed_bonus = speed_bonus(strain_time);
-    let dist_bonus = dist_bonus(
-        travel_dist + curr.min_jump_dist,
-        curr.small_circle_bonus,
-        autopilot,
-    );
+    let dist = travel_dist + curr.min_jump_dist;
+    let dist_bonus = dist_bonus(dist, curr.small_circle_bonus, autopilot);
     let difficulty = (1.0 + speed_bonus + dist_bonus) * 1000.0 / strain_time;
     difficulty * doubletapness
 }
 
 fn travel_before(t: &[f64], first: usize, j: usize) -> f64
-    requires { ⌜ Lent (now t) first j j ⌝ }
+    requires { ⌜ Covers (now t) first j j ⌝ }
     ensures { λ r. ⌜ r ≡ travelBefore (partAt (now (t .entry)) first) j ⌝ }
 {
     if 1 < j {
@@ -101,7 +100,7 @@ pub fn evaluate_diff_of(
     hit_window: f64,
     autopilot: bool,
 ) -> f64
-    requires { ⌜ Ready (now chart) lay × (j < lay .n) × Lent (now t) first last j ⌝ }
+    requires { ⌜ Ready (now chart) lay × (j < lay .n) × Covers (now t) first last j ⌝ }
     ensures { λ r. ⌜ r ≡ speedAtPlace (objectOf (now (chart .entry)) lay) (partAt (now (t .entry)) first) last j «hit_window» autopilot ⌝ }
 {
     let base = OsuObject::new(objects::fields_of(chart, lay, j));
@@ -143,14 +142,14 @@ pub fn evaluate_place(
     requires { ⌜ Ready (now chart) lay × (1 ≤ j) × (j < lay .n) × (16 * lay .n ≤ length (now t)) ⌝ }
     ensures { λ r. ⌜ r ≡ speedAtPlace (objectOf (now (chart .entry)) lay) (recordAt (now (t .entry))) (min (j + 1) (lay .n - 1)) j «hit_window» autopilot ⌝ }
 {
-    let first = part::first(j);
-    let last = part::last(j, lay.n);
+    let first = sight::first_place(j);
+    let end = sight::end_place(j, lay.n);
     let from = 16 * first;
-    let to = 16 * (last + 1);
+    let to = 16 * end;
     evaluate_diff_of(
         &t[from..to],
         first,
-        last,
+        end - 1,
         chart,
         lay,
         j,

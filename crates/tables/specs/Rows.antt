@@ -2,12 +2,12 @@
 -- Assumes nothing.
 use mathlib.Core.Path.{_≡_, refl, sym, ap, _∙_, subst}
 use mathlib.Core.List.{List, [], _∷_, _++_, append-assoc}
-use Prim.Native.Nat.{ℕ, zero, suc, _+_, _-_, _*_, _≤_, _<_, min}
-use native.Mathlib.Nat.{suc-add, zero-add, add-zero, add-suc, mul-suc, mul-le-mul-left, min-eq-left}
+use Prim.Native.Nat.{ℕ, zero, suc, _+_, _-_, _*_, _≤_, _<_}
+use native.Mathlib.Nat.{suc-add, zero-add, add-zero, add-suc, mul-suc, mul-le-mul-left}
 use native.Mathlib.Omega.{arith}
 use native.Mathlib.Decide.{decLt}
-use lib.ListN.{length, take, drop, length-append, length-take, length-drop}
-use lib.Seq.{take-nil, drop-nil, take-append-le, take-take, drop-drop, take-append-add, drop-append-add, take-at, drop-at, length-take-le, take-append-seam, drop-append-seam, drop-append-le, sets, sets-eq}
+use lib.ListN.{length, take, drop, length-append, length-drop}
+use lib.Seq.{take-nil, take-append-le, take-take, drop-drop, take-at, drop-at, length-take-le, drop-append-seam, sets, sets-eq}
 use Rattle.tables.specs.Parts.{part, put, row, fill}
 
 rows-apart : (w : ℕ) {i j : ℕ} → i < j → w * i + w ≤ w * j

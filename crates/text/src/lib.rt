@@ -1,6 +1,5 @@
 // Text in a lent buffer: each function appends at an offset and returns the offset behind what it wrote.
 // What does not fit is left out, so that no caller has to count.
-ghost use mathlib.Core.Path.{_≡_};
 ghost use Prim.Native.Nat.{_+_, _%_, _<_, _≤_};
 
 // One byte.

@@ -6,18 +6,18 @@ use Rattle.floats.specs.Numbers.{f64, _⊕_, _⊖_, _⊗_, _⊘_, zero64, one64
 use Rattle.floats.specs.Compare.{clampOf}
 use Rattle.elementary.specs.Power.{expOf}
 
--- 60,000 ms in a minute, and the four parts of a beat
+-- 60,000 ms in a minute, and the parts of a beat where no other number is given
 abbrev pub minute : Float
 minute = f64 0x40ED4C0000000000
 
-abbrev pub parts : Float
-parts = f64 0x4010000000000000
+abbrev pub defaultDelimiter : Float
+defaultDelimiter = f64 0x4010000000000000
 
-unfoldable pub bpmToMilliseconds : Float → Float
-bpmToMilliseconds bpm = minute ⊘ parts ⊘ bpm
+unfoldable pub bpmToMilliseconds : Float → Float → Float
+bpmToMilliseconds bpm delimiter = minute ⊘ delimiter ⊘ bpm
 
-unfoldable pub millisecondsToBpm : Float → Float
-millisecondsToBpm ms = minute ⊘ (ms ⊗ parts)
+unfoldable pub millisecondsToBpm : Float → Float → Float
+millisecondsToBpm ms delimiter = minute ⊘ (ms ⊗ delimiter)
 
 unfoldable pub logistic : Float → Float → Float → Float → Float
 logistic x midpoint multiplier most = most ⊘ (one64 ⊕ expOf (multiplier ⊗ (midpoint ⊖ x)))

@@ -1,19 +1,22 @@
-// util/difficulty.rs, as far as the evaluators use it. An `Option` argument of the Rust is given its default where every caller leaves it out.
+// util/difficulty.rs, as far as the evaluators use it. A delimiter is a number; where the Rust's is left out it is `DEFAULT_DELIMITER`.
 ghost use mathlib.Core.Path.{_≡_};
 ghost use Rattle.util.specs.Difficulty as Difficulty;
 
-// The length of a beat's part in milliseconds, four parts to a beat.
-pub fn bpm_to_milliseconds(bpm: f64) -> f64
-    ensures { λ r. ⌜ r ≡ Difficulty.bpmToMilliseconds bpm ⌝ }
+// Parts of a beat.
+pub const DEFAULT_DELIMITER: f64 = 4.0;
+
+// The length of a part of a beat in milliseconds.
+pub fn bpm_to_milliseconds(bpm: f64, delimiter: f64) -> f64
+    ensures { λ r. ⌜ r ≡ Difficulty.bpmToMilliseconds bpm delimiter ⌝ }
 {
-    60000.0 / 4.0 / bpm
+    60000.0 / delimiter / bpm
 }
 
-// The beats per minute of a part of a beat, four parts to a beat.
-pub fn milliseconds_to_bpm(ms: f64) -> f64
-    ensures { λ r. ⌜ r ≡ Difficulty.millisecondsToBpm ms ⌝ }
+// The beats per minute of a part of a beat that lasts so long.
+pub fn milliseconds_to_bpm(ms: f64, delimiter: f64) -> f64
+    ensures { λ r. ⌜ r ≡ Difficulty.millisecondsToBpm ms delimiter ⌝ }
 {
-    60000.0 / (ms * 4.0)
+    60000.0 / (ms * delimiter)
 }
 
 // From 0 to max_value, half of it at the midpoint.

@@ -16,6 +16,9 @@ calc-acute-angle-bonus-requires c κs = search needs
 acute-repeated-requires : tie.Need-acute-repeated-requires
 acute-repeated-requires c κs = search needs
 
+milliseconds-to-bpm-requires : tie.Need-milliseconds-to-bpm-requires
+milliseconds-to-bpm-requires c κs = search needs
+
 smootherstep-requires : tie.Need-smootherstep-requires
 smootherstep-requires c κs = search needs
 
@@ -30,7 +33,7 @@ smootherstep-requires-2 c κs = search needs
 
 returns : tie.Need-returns
 unfolding acuteOf
-returns c = simp (c .smootherstep2 .ensures, c .before .smootherstep .ensures, c .before .before .acute-repeated .ensures, c .before .before .before .calc-acute-angle-bonus .ensures, c .before .before .before .before .if1 .taken, ← c .before .before .before .before .before .min .ensures, ← c .before .before .before .before .before .before .max .ensures)
+returns c = simp (c .smootherstep2 .ensures, c .before .smootherstep .ensures, c .before .before .milliseconds-to-bpm .ensures, c .before .before .before .acute-repeated .ensures, c .before .before .before .before .calc-acute-angle-bonus .ensures, c .before .before .before .before .before .if1 .taken, ← c .before .before .before .before .before .before .min .ensures, ← c .before .before .before .before .before .before .before .max .ensures)
 
 returns-2 : tie.Need-returns-2
 unfolding acuteOf
@@ -44,6 +47,7 @@ acute-spec =
     min-requires
     calc-acute-angle-bonus-requires
     acute-repeated-requires
+    milliseconds-to-bpm-requires
     smootherstep-requires
     int-to-float-smootherstep
     int-to-float-smootherstep-2

@@ -10,10 +10,6 @@ use Rattle.evaluators.specs.Values.{rowOf, valuesIn}
 use Rattle.evaluators.specs.Laws.{row-width}
 use Rattle.evaluators.proofs.fill_values.Statement.{statement}
 use Rattle.evaluators.proofs.fill_values.Tie as tie
-use Rattle.evaluators.proofs.fill_values.Reads as reads
-use Rattle.evaluators.proofs.fill_values.Lts as lts
-use Rattle.evaluators.proofs.put_values.Reads as put-values-reads
-use Rattle.evaluators.proofs.values_at.Reads as values-at-reads
 
 abbrev Inv-loop : tie.InvT-loop
 Inv-loop values₀ t chart lay set lo hi j₀ values j =

@@ -9,8 +9,6 @@ use Rattle.evaluators.specs.Values.{rowOf}
 use borrow.Author.Needs.{needs}
 use Rattle.evaluators.proofs.put_values.Statement.{statement}
 use Rattle.evaluators.proofs.put_values.Tie as tie
-use Rattle.evaluators.proofs.put_values.Reads as reads
-use Rattle.evaluators.proofs.put_values.Lts as lts
 
 -- src/lib.rt:40:14
 mul-at : tie.Need-mul-at

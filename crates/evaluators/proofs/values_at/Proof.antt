@@ -11,13 +11,6 @@ use Rattle.evaluators.specs.Values.{rowOf, valuesOf}
 use borrow.Author.Needs.{needs}
 use Rattle.evaluators.proofs.values_at.Statement.{statement}
 use Rattle.evaluators.proofs.values_at.Tie as tie
-use Rattle.evaluators.proofs.values_at.Reads as reads
-use Rattle.evaluators.proofs.values_at.Lts as lts
-use Rattle.aim.proofs.evaluate_place.Reads as evaluate-place-reads
-use Rattle.flashlight.proofs.FlashlightEvaluator.evaluate_place.Reads as FlashlightEvaluator-evaluate-place-reads
-use Rattle.flashlight.proofs.evaluator_of.Reads as evaluator-of-reads
-use Rattle.rhythm.proofs.evaluate_place.Reads as evaluate-place-reads′
-use Rattle.speed.proofs.evaluate_place.Reads as evaluate-place-reads′′
 
 -- src/lib.rt:25:9
 evaluator-of-requires : tie.Need-evaluator-of-requires

@@ -5,11 +5,6 @@ use lib.ListN.{length}
 use borrow.Author.Needs.{needs}
 use Rattle.leaves.proofs.answers.Statement.{statement}
 use Rattle.leaves.proofs.answers.Tie as tie
-use Rattle.leaves.proofs.answers.Reads as reads
-use Rattle.leaves.proofs.answers.Lts as lts
-use Rattle.floats.proofs.u64_at.Reads as u64-at-reads
-use Rattle.leaves.proofs.answer.Reads as answer-reads
-use Rattle.text.proofs.put.Reads as put-reads
 
 abbrev Inv-loop : tie.InvT-loop
 Inv-loop s n out₀ end₀ i₀ out end i = length out ≡ length out₀

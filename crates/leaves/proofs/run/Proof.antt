@@ -4,11 +4,6 @@ use lib.ListN.{length}
 use borrow.Author.Needs.{needs}
 use Rattle.leaves.proofs.run.Statement.{statement}
 use Rattle.leaves.proofs.run.Tie as tie
-use Rattle.leaves.proofs.run.Reads as reads
-use Rattle.leaves.proofs.run.Lts as lts
-use Rattle.io.proofs.read_full.Reads as read-full-reads
-use Rattle.leaves.proofs.answers.Reads as answers-reads
-use Rattle.leaves.proofs.show.Reads as show-reads
 
 abbrev Inv-loop : tie.InvT-loop
 Inv-loop s₀ out₀ left₀ s out left = (length s ≡ length s₀) × (length out ≡ length out₀)

@@ -4,9 +4,6 @@ use lib.ListN.{length}
 use borrow.Author.Needs.{needs}
 use Rattle.paths_main.proofs.run.Statement.{statement}
 use Rattle.paths_main.proofs.run.Tie as tie
-use Rattle.paths_main.proofs.run.Reads as reads
-use Rattle.paths_main.proofs.run.Lts as lts
-use Rattle.paths_main.proofs.answer.Reads as answer-reads
 
 abbrev Inv-loop : tie.InvT-loop
 Inv-loop path₀ left₀ path left = length path ≡ length path₀

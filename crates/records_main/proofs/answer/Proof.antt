@@ -1,17 +1,8 @@
 -- `records_main::answer` meets its contract: what `check` accepts is ready to be filled from. Assumes nothing.
-use native.Mathlib.Omega.{arith}
 use Rattle.records_main.proofs.Opened.{long, few, is-ready, room}
 use borrow.Author.Needs.{needs}
 use Rattle.records_main.proofs.answer.Statement.{statement}
 use Rattle.records_main.proofs.answer.Tie as tie
-use Rattle.records_main.proofs.answer.Reads as reads
-use Rattle.records_main.proofs.answer.Lts as lts
-use Rattle.opening.proofs.check.Reads as check-reads
-use Rattle.opening.proofs.layout_of.Reads as layout-of-reads
-use Rattle.opening.proofs.settings_at.Reads as settings-at-reads
-use Rattle.records.proofs.fill.Reads as fill-reads
-use Rattle.records_main.proofs.show_records.Reads as show-records-reads
-use Rattle.records_main.proofs.show_refusal.Reads as show-refusal-reads
 
 -- src/main.rt:99:11
 check-requires : tie.Need-check-requires

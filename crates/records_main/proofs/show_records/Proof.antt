@@ -3,14 +3,6 @@ use Prim.Native.Nat.{_-_}
 use borrow.Author.Needs.{needs}
 use Rattle.records_main.proofs.show_records.Statement.{statement}
 use Rattle.records_main.proofs.show_records.Tie as tie
-use Rattle.records_main.proofs.show_records.Reads as reads
-use Rattle.records_main.proofs.show_records.Lts as lts
-use Rattle.records.proofs.record_at.Reads as record-at-reads
-use Rattle.records_main.proofs.show.Reads as show-reads
-use Rattle.records_main.proofs.show_record.Reads as show-record-reads
-use Rattle.text.proofs.put.Reads as put-reads
-use Rattle.text.proofs.put_all.Reads as put-all-reads
-use Rattle.text.proofs.put_decimal.Reads as put-decimal-reads
 
 abbrev Inv-loop : tie.InvT-loop
 Inv-loop t n end j₀ j = Unit {0}

@@ -6,12 +6,6 @@ use Rattle.replacements.proofs.Prefix.{longer}
 use borrow.Author.Needs.{needs}
 use Rattle.replacements.proofs.answer_next.Statement.{statement}
 use Rattle.replacements.proofs.answer_next.Tie as tie
-use Rattle.replacements.proofs.answer_next.Reads as reads
-use Rattle.replacements.proofs.answer_next.Lts as lts
-use Rattle.io.proofs.large_buffer.Reads as large-buffer-reads
-use Rattle.io.proofs.read_full.Reads as read-full-reads
-use Rattle.replacements.proofs.calls.Reads as calls-reads
-use Rattle.replacements.proofs.next_word.Reads as next-word-reads
 
 -- src/main.rt:100:21
 large-buffer-requires : tie.Need-large-buffer-requires

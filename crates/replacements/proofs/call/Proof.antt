@@ -6,15 +6,6 @@ use native.Mathlib.Omega.{arith}
 use borrow.Author.Needs.{needs}
 use Rattle.replacements.proofs.call.Statement.{statement}
 use Rattle.replacements.proofs.call.Tie as tie
-use Rattle.replacements.proofs.call.Reads as reads
-use Rattle.replacements.proofs.call.Lts as lts
-use Rattle.io.proofs.buffer.Reads as buffer-reads
-use Rattle.io.proofs.read_full.Reads as read-full-reads
-use Rattle.replacements.proofs.next_place.Reads as next-place-reads
-use Rattle.replacements.proofs.next_word.Reads as next-word-reads
-use Rattle.replacements.proofs.put_verdict.Reads as put-verdict-reads
-use Rattle.replacements.proofs.show.Reads as show-reads
-use Rattle.replacing.proofs.replace.Reads as replace-reads
 
 next-place-requires : tie.Need-next-place-requires
 next-place-requires c κs = search needs

@@ -4,10 +4,6 @@ use lib.ListN.{length}
 use borrow.Author.Needs.{needs}
 use Rattle.replacements.proofs.calls.Statement.{statement}
 use Rattle.replacements.proofs.calls.Tie as tie
-use Rattle.replacements.proofs.calls.Reads as reads
-use Rattle.replacements.proofs.calls.Lts as lts
-use Rattle.replacements.proofs.call.Reads as call-reads
-use Rattle.replacements.proofs.show_checksum.Reads as show-checksum-reads
 
 abbrev Inv-loop : tie.InvT-loop
 Inv-loop chart₀ n left₀ chart left = length chart ≡ length chart₀

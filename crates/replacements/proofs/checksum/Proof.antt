@@ -4,9 +4,6 @@ use lib.ListN.{length}
 use borrow.Author.Needs.{needs}
 use Rattle.replacements.proofs.checksum.Statement.{statement}
 use Rattle.replacements.proofs.checksum.Tie as tie
-use Rattle.replacements.proofs.checksum.Reads as reads
-use Rattle.replacements.proofs.checksum.Lts as lts
-use Rattle.replacements.proofs.wide.Reads as wide-reads
 
 abbrev Inv-loop : tie.InvT-loop
 Inv-loop s a₀ b₀ i₀ a b i = Unit {0}

@@ -3,10 +3,6 @@ use native.Mathlib.Omega.{arith}
 use borrow.Author.Needs.{needs}
 use Rattle.replacements.proofs.main.Statement.{statement}
 use Rattle.replacements.proofs.main.Tie as tie
-use Rattle.replacements.proofs.main.Reads as reads
-use Rattle.replacements.proofs.main.Lts as lts
-use Rattle.replacements.proofs.answer_next.Reads as answer-next-reads
-use Rattle.replacements.proofs.next_word.Reads as next-word-reads
 
 abbrev Inv-loop : tie.InvT-loop
 Inv-loop left₀ left = Unit {0}

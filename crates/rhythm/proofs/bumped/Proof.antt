@@ -1,5 +1,5 @@
 -- `rhythm::bumped` meets its contract. Assumes nothing.
-use Rattle.rhythm.specs.Rhythm.{bumpedOf}
+use Rattle.rhythm.specs.Counts.{bumpedOf}
 use borrow.Author.Needs.{needs}
 use Rattle.rhythm.proofs.bumped.Statement.{statement}
 use Rattle.rhythm.proofs.bumped.Tie as tie

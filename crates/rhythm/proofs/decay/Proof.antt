@@ -1,7 +1,7 @@
 -- `rhythm::decay` meets its contract. Assumes nothing.
 use native.Mathlib.Omega.{arith}
 use Rattle.rhythm.proofs.Search.{small-float}
-use Rattle.rhythm.specs.Rhythm.{decayOf}
+use Rattle.rhythm.specs.Step.{decayOf}
 use borrow.Author.Needs.{needs}
 use Rattle.rhythm.proofs.decay.Statement.{statement}
 use Rattle.rhythm.proofs.decay.Tie as tie

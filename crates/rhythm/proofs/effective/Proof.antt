@@ -1,5 +1,5 @@
 -- `rhythm::effective` meets its contract. Assumes nothing.
-use Rattle.rhythm.specs.Rhythm.{effectiveOf}
+use Rattle.rhythm.specs.Step.{effectiveOf}
 use borrow.Author.Needs.{needs}
 use Rattle.rhythm.proofs.effective.Statement.{statement}
 use Rattle.rhythm.proofs.effective.Tie as tie

@@ -6,17 +6,14 @@ use borrow.Author.Needs.{needs}
 use Rattle.rhythm.proofs.evaluate_place.Statement.{statement}
 use Rattle.rhythm.proofs.evaluate_place.Tie as tie
 
-first-requires : tie.Need-first-requires
-first-requires c κs = search needs
+first-place-requires : tie.Need-first-place-requires
+first-place-requires c κs = search needs
 
-last-requires : tie.Need-last-requires
-last-requires c κs = search needs
+end-place-requires : tie.Need-end-place-requires
+end-place-requires c κs = search needs
 
 mul-from : tie.Need-mul-from
 mul-from c = search needs
-
-add-to : tie.Need-add-to
-add-to c = search needs
 
 mul-to : tie.Need-mul-to
 mul-to c = search needs
@@ -33,27 +30,30 @@ part-evaluate-diff-of-start c = search needs
 part-evaluate-diff-of-end : tie.Need-part-evaluate-diff-of-end
 part-evaluate-diff-of-end c = search needs
 
+sub-evaluate-diff-of-2 : tie.Need-sub-evaluate-diff-of-2
+sub-evaluate-diff-of-2 c = search needs
+
 evaluate-diff-of-requires : tie.Need-evaluate-diff-of-requires
 evaluate-diff-of-requires c κs = search needs
 
 returns : tie.Need-returns
 returns c =
     c .evaluate-diff-of .ensures
-    ∙ rhythm-part _ (now (c .before .before .before .before .before .before .args .t)) (c .before .before .before .first .result) (c .before .before .last .result) (c .before .before .before .before .before .before .args .j) (c .before .before .before .before .before .before .args .lay .n) _
-    (search needs) (search needs) (c .before .before .before .first .ensures) (c .before .before .last .ensures)
+    ∙ rhythm-part _ (now (c .before .before .before .before .before .before .args .t)) (c .before .before .before .first-place .result) (c .before .before .end-place .result) (c .before .before .before .before .before .before .args .j) (c .before .before .before .before .before .before .args .lay .n) _
+    (search needs) (search needs) (c .before .before .before .first-place .ensures) (c .before .before .end-place .ensures)
 
 pub evaluate-place-spec : {M : Type 1} → statement M
 evaluate-place-spec =
     tie.close
     (tie.spec
-    first-requires
-    last-requires
+    first-place-requires
+    end-place-requires
     mul-from
-    add-to
     mul-to
     mul-evaluate-diff-of
     sub-evaluate-diff-of
     part-evaluate-diff-of-start
     part-evaluate-diff-of-end
+    sub-evaluate-diff-of-2
     evaluate-diff-of-requires
     returns)

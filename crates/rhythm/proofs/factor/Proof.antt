@@ -1,6 +1,6 @@
 -- `rhythm::factor` meets its contract. Assumes nothing.
 use Rattle.rhythm.proofs.Signed.{back}
-use Rattle.rhythm.specs.Rhythm.{factorOf}
+use Rattle.rhythm.specs.Step.{factorOf}
 use borrow.Author.Needs.{needs}
 use Rattle.rhythm.proofs.factor.Statement.{statement}
 use Rattle.rhythm.proofs.factor.Tie as tie

@@ -1,11 +1,11 @@
 -- `rhythm::faster_twice` meets its contract. Assumes nothing.
-use Rattle.rhythm.specs.Rhythm.{fasterTwice}
+use Rattle.rhythm.specs.Step.{fasterTwice}
 use Rattle.rhythm.proofs.faster_twice.Statement.{statement}
 use Rattle.rhythm.proofs.faster_twice.Tie as tie
 
 returns : tie.Need-returns
 unfolding fasterTwice
-returns c = simp (c .if1 .taken)
+returns c = simp (c .before .before .if1 .taken)
 
 returns-2 : tie.Need-returns-2
 unfolding fasterTwice

@@ -1,25 +1,27 @@
 -- `rhythm::run` meets its contract. Assumes nothing.
 use Prim.Native.Nat.{_≤_, _-_}
-use mathlib.Core.Path.{_≡_, sym, _∙_}
+use mathlib.Core.Path.{_≡_, sym, ap, subst, _∙_}
 use native.Mathlib.Omega.{arith}
 use denote.Ref.{now}
-use borrow.Author.Needs.{needs}
 use Rattle.osu_object.specs.Osu.{objectOf}
-use Rattle.speed.specs.Part.{partAt}
-use Rattle.rhythm.specs.Rhythm.{Good, cellsOf, runOf, freshState}
-use Rattle.rhythm.proofs.History.{run-turn, run-end, cell-here, good-mono, good-fresh, good-step}
+use Rattle.sight.specs.Part.{partAt}
+use Rattle.rhythm.specs.Step.{Walk, walkOf, freshWalk, Good}
+use Rattle.rhythm.specs.Rhythm.{cellsOf, runOf}
+use Rattle.rhythm.proofs.Good.{good-mono, good-fresh, good-step}
+use Rattle.rhythm.proofs.History.{run-turn, run-end, cell-here, fresh-walk}
 use Rattle.rhythm.proofs.Laws.{few-steps}
+use borrow.Author.Needs.{needs}
 use Rattle.rhythm.proofs.run.Statement.{statement}
 use Rattle.rhythm.proofs.run.Tie as tie
 
 abbrev Inv-loop : tie.InvT-loop
-Inv-loop t first chart lay j hist from window eps here s₀ k₀ s k =
-    (k ≤ from) × Good (from - k) s
-    × (runOf (cellsOf (objectOf chart lay) (partAt t first) j) hist window eps k s
-    ≡ runOf (cellsOf (objectOf chart lay) (partAt t first) j) hist window eps from (freshState eps))
+Inv-loop t first chart lay j hist from window eps here deltas₀ delta-counts₀ counts₀ s₀ k₀ deltas delta-counts counts s k =
+    (k ≤ from) × Good (from - k) eps (walkOf s eps deltas delta-counts counts)
+    × (runOf (cellsOf (objectOf chart lay) (partAt t first) j) hist window eps k (walkOf s eps deltas delta-counts counts)
+    ≡ runOf (cellsOf (objectOf chart lay) (partAt t first) j) hist window eps from (freshWalk eps))
 
 abbrev μ-loop : tie.MeasureT-loop
-μ-loop t first chart lay j hist from window eps here s₀ k₀ s k = k
+μ-loop t first chart lay j hist from window eps here deltas₀ delta-counts₀ counts₀ s₀ k₀ deltas delta-counts counts s k = k
 
 cell-at-requires : tie.Need-cell-at-requires Inv-loop μ-loop
 cell-at-requires c κs = search needs
@@ -28,7 +30,12 @@ new-requires : tie.Need-new-requires Inv-loop μ-loop
 new-requires c κs = search needs
 
 loop-holds : tie.Need-loop-holds Inv-loop μ-loop
-loop-holds c = (search needs, rw (c .new .ensures) (good-mono 0 _ _ (omega arith) (good-fresh _)), rw (c .new .ensures))
+loop-holds c =
+    let e = fresh-walk (c .before .before .before .before .args .eps) (c .new .result) (c .new .ensures) in (
+      search needs,
+      rw e (good-mono 0 _ _ _ (omega arith) (good-fresh _)),
+      rw e,
+    )
 
 sub-cell-at : tie.Need-sub-cell-at Inv-loop μ-loop
 sub-cell-at c = search needs
@@ -58,7 +65,7 @@ decay-requires : tie.Need-decay-requires Inv-loop μ-loop
 decay-requires c κs = search needs
 
 step-requires : tie.Need-step-requires Inv-loop μ-loop
-step-requires c κs = good-mono _ 31 _ (few-steps (c .before .before .before .before .before .before .before .before .before .before .args .from) (c .before .before .before .before .before .loop .k) (c .before .before .before .before .before .before .before .before .before .before .args .hist) (c .before .before .before .before .before .before .before .before .before .before .pre .3) (c .before .before .before .before .before .before .before .before .before .before .pre .5)) (c .before .before .before .before .before .loop .inv .1)
+step-requires c κs = good-mono _ 31 _ _ (few-steps (c .before .before .before .before .before .before .before .before .before .before .before .before .before .args .from) (c .before .before .before .before .before .before .before .before .loop .k) (c .before .before .before .before .before .before .before .before .before .before .before .before .before .args .hist) (c .before .before .before .before .before .before .before .before .before .before .before .before .before .pre .3) (c .before .before .before .before .before .before .before .before .before .before .before .before .before .pre .5)) (c .before .before .before .before .before .before .before .before .loop .inv .1)
 
 sub-k : tie.Need-sub-k Inv-loop μ-loop
 sub-k c = search needs
@@ -68,16 +75,18 @@ loop-less c = search needs
 
 loop-again : tie.Need-loop-again Inv-loop μ-loop
 loop-again c = (
-  search needs,
-  rw (c .step .ensures) (good-mono _ _ _ (omega (arith, c .before .before .before .before .before .before .loop .inv .0, c .before .before .before .before .before .loop-test .taken)) (good-step _ (c .before .before .before .before .before .before .loop .s) (c .before .before .before .before .before .before .loop .inv .1) _ _ _ _ _ _)),
-  run-turn (cellsOf (objectOf (now (c .before .before .before .before .before .before .before .before .before .before .before .args .chart)) (c .before .before .before .before .before .before .before .before .before .before .before .args .lay)) (partAt (now (c .before .before .before .before .before .before .before .before .before .before .before .args .t)) (c .before .before .before .before .before .before .before .before .before .before .before .args .first)) (c .before .before .before .before .before .before .before .before .before .before .before .args .j)) (c .before .before .before .before .before .before .before .before .before .before .before .args .hist) _ _ (c .before .before .before .before .before .before .loop .k) (c .before .before .before .before .before .before .loop .s) _ (c .before .before .before .before .before .before .before .before .cell-at .result) _ _ _ _ (search needs)
-      (cell-here (objectOf (now (c .before .before .before .before .before .before .before .before .before .before .before .args .chart)) (c .before .before .before .before .before .before .before .before .before .before .before .args .lay)) (partAt (now (c .before .before .before .before .before .before .before .before .before .before .before .args .t)) (c .before .before .before .before .before .before .before .before .before .before .before .args .first)) (c .before .before .before .before .before .before .before .before .before .before .before .args .j) _ (c .before .before .before .before .before .before .before .before .cell-at .ensures))
-      (c .before .before .before .before .cell-at2 .ensures) (c .before .before .before .cell-at3 .ensures) (c .before .before .cell-at4 .ensures) (c .before .decay .ensures) (c .step .ensures)
-      ∙ c .before .before .before .before .before .before .loop .inv .2,
+  omega (arith, c .before .before .before .before .before .before .before .before .before .loop .inv .0),
+  subst (λ (w : Walk). Good (c .before .before .before .before .before .before .before .before .before .before .before .before .before .before .args .from - (c .before .before .before .before .before .before .before .before .before .loop .k - 1)) (c .before .before .before .before .before .before .before .before .before .before .before .before .before .before .args .eps) w) (sym (c .step .ensures))
+      (good-mono _ _ _ _ (omega (arith, c .before .before .before .before .before .before .before .before .before .loop .inv .0, c .before .before .before .before .before .before .before .before .loop-test .taken)) (good-step _ _ (walkOf (c .before .before .before .before .before .before .before .before .before .loop .s) (c .before .before .before .before .before .before .before .before .before .before .before .before .before .before .args .eps) (c .before .before .before .before .before .before .before .before .before .loop .deltas) (c .before .before .before .before .before .before .before .before .before .loop .delta-counts) (c .before .before .before .before .before .before .before .before .before .loop .counts)) (c .before .before .before .before .before .before .before .before .before .loop .inv .1) _ _ _ _ _)),
+  run-turn (cellsOf (objectOf (now (c .before .before .before .before .before .before .before .before .before .before .before .before .before .before .args .chart)) (c .before .before .before .before .before .before .before .before .before .before .before .before .before .before .args .lay)) (partAt (now (c .before .before .before .before .before .before .before .before .before .before .before .before .before .before .args .t)) (c .before .before .before .before .before .before .before .before .before .before .before .before .before .before .args .first)) (c .before .before .before .before .before .before .before .before .before .before .before .before .before .before .args .j)) (c .before .before .before .before .before .before .before .before .before .before .before .before .before .before .args .hist) _ _ (c .before .before .before .before .before .before .before .before .before .loop .k) (walkOf (c .before .before .before .before .before .before .before .before .before .loop .s) (c .before .before .before .before .before .before .before .before .before .before .before .before .before .before .args .eps) (c .before .before .before .before .before .before .before .before .before .loop .deltas) (c .before .before .before .before .before .before .before .before .before .loop .delta-counts) (c .before .before .before .before .before .before .before .before .before .loop .counts)) _ (c .before .before .before .before .before .before .before .before .before .before .before .cell-at .result) _ _ _ _ (search needs)
+      (cell-here (objectOf (now (c .before .before .before .before .before .before .before .before .before .before .before .before .before .before .args .chart)) (c .before .before .before .before .before .before .before .before .before .before .before .before .before .before .args .lay)) (partAt (now (c .before .before .before .before .before .before .before .before .before .before .before .before .before .before .args .t)) (c .before .before .before .before .before .before .before .before .before .before .before .before .before .before .args .first)) (c .before .before .before .before .before .before .before .before .before .before .before .before .before .before .args .j) _ (c .before .before .before .before .before .before .before .before .before .before .before .cell-at .ensures))
+      (c .before .before .before .before .before .before .before .cell-at2 .ensures) (c .before .before .before .before .before .before .cell-at3 .ensures) (c .before .before .before .before .before .cell-at4 .ensures) (c .before .before .before .before .decay .ensures) (c .step .ensures)
+      ∙ c .before .before .before .before .before .before .before .before .before .loop .inv .2,
 )
 
 returns : tie.Need-returns Inv-loop μ-loop
-returns c = sym (run-end (cellsOf (objectOf (now (c .before .before .before .before .before .before .args .chart)) (c .before .before .before .before .before .before .args .lay)) (partAt (now (c .before .before .before .before .before .before .args .t)) (c .before .before .before .before .before .before .args .first)) (c .before .before .before .before .before .before .args .j)) (c .before .before .before .before .before .before .args .hist) _ _ (c .before .loop .k) _ (search needs)) ∙ c .before .loop .inv .2
+returns c =
+    ap (λ (w : Walk). w .state .sum) (sym (run-end (cellsOf (objectOf (now (c .before .before .before .before .before .before .args .chart)) (c .before .before .before .before .before .before .args .lay)) (partAt (now (c .before .before .before .before .before .before .args .t)) (c .before .before .before .before .before .before .args .first)) (c .before .before .before .before .before .before .args .j)) (c .before .before .before .before .before .before .args .hist) _ _ (c .before .loop .k) (walkOf (c .before .loop .s) (c .before .before .before .before .before .before .args .eps) (c .before .loop .deltas) (c .before .loop .delta-counts) (c .before .loop .counts)) (search needs)) ∙ c .before .loop .inv .2)
 
 pub run-spec : {M : Type 1} → statement M
 run-spec =

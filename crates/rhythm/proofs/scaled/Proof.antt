@@ -1,5 +1,5 @@
 -- `rhythm::scaled` meets its contract. Assumes nothing.
-use Rattle.rhythm.specs.Rhythm.{scaledOf}
+use Rattle.rhythm.specs.Step.{scaledOf}
 use Rattle.rhythm.proofs.scaled.Statement.{statement}
 use Rattle.rhythm.proofs.scaled.Tie as tie
 

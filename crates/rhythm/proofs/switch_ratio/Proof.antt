@@ -1,5 +1,5 @@
 -- `rhythm::switch_ratio` meets its contract. Assumes nothing.
-use Rattle.rhythm.specs.Rhythm.{switchRatio}
+use Rattle.rhythm.specs.Step.{switchRatio}
 use borrow.Author.Needs.{needs}
 use Rattle.rhythm.proofs.switch_ratio.Statement.{statement}
 use Rattle.rhythm.proofs.switch_ratio.Tie as tie

@@ -3,15 +3,6 @@ use Rattle.values_main.proofs.Opened.{long, few, is-ready, room, room-v
 use borrow.Author.Needs.{needs}
 use Rattle.values_main.proofs.answer.Statement.{statement}
 use Rattle.values_main.proofs.answer.Tie as tie
-use Rattle.values_main.proofs.answer.Reads as reads
-use Rattle.values_main.proofs.answer.Lts as lts
-use Rattle.evaluators.proofs.fill_values.Reads as fill-values-reads
-use Rattle.opening.proofs.check.Reads as check-reads
-use Rattle.opening.proofs.layout_of.Reads as layout-of-reads
-use Rattle.opening.proofs.settings_at.Reads as settings-at-reads
-use Rattle.records.proofs.fill.Reads as fill-reads
-use Rattle.values_main.proofs.show_refusal.Reads as show-refusal-reads
-use Rattle.values_main.proofs.show_values.Reads as show-values-reads
 
 -- src/main.rt:70:11
 check-requires : tie.Need-check-requires

@@ -3,10 +3,6 @@ use Prim.Native.Nat.{_-_}
 use borrow.Author.Needs.{needs}
 use Rattle.values_main.proofs.show_values.Statement.{statement}
 use Rattle.values_main.proofs.show_values.Tie as tie
-use Rattle.values_main.proofs.show_values.Reads as reads
-use Rattle.values_main.proofs.show_values.Lts as lts
-use Rattle.values_main.proofs.show_count.Reads as show-count-reads
-use Rattle.values_main.proofs.show_place.Reads as show-place-reads
 
 abbrev Inv-loop : tie.InvT-loop
 Inv-loop values n j₀ j = Unit {0}

@@ -1,6 +1,6 @@
 -- `rhythm::RhythmState::began` meets its contract. Assumes nothing.
 use Rattle.rhythm.proofs.Signed.{back}
-use Rattle.rhythm.specs.Rhythm.{beganOf}
+use Rattle.rhythm.specs.Step.{beganOf}
 use borrow.Author.Needs.{needs}
 use Rattle.rhythm.proofs.RhythmState.began.Statement.{statement}
 use Rattle.rhythm.proofs.RhythmState.began.Tie as tie

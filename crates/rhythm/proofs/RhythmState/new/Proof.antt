@@ -1,5 +1,5 @@
 -- `rhythm::RhythmState::new` meets its contract. Assumes nothing.
-use Rattle.rhythm.specs.Rhythm.{freshState}
+use Rattle.rhythm.specs.Step.{freshState}
 use borrow.Author.Needs.{needs}
 use Rattle.rhythm.proofs.RhythmState.new.Statement.{statement}
 use Rattle.rhythm.proofs.RhythmState.new.Tie as tie

@@ -1,6 +1,6 @@
 -- `rhythm::RhythmState::progressed` meets its contract. Assumes nothing.
 use Rattle.rhythm.proofs.Signed.{back}
-use Rattle.rhythm.specs.Rhythm.{progressedOf}
+use Rattle.rhythm.specs.Step.{progressedOf}
 use borrow.Author.Needs.{needs}
 use Rattle.rhythm.proofs.RhythmState.progressed.Statement.{statement}
 use Rattle.rhythm.proofs.RhythmState.progressed.Tie as tie

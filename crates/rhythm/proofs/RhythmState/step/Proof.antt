@@ -1,5 +1,6 @@
 -- `rhythm::RhythmState::step` meets its contract. Assumes nothing.
-use Rattle.rhythm.specs.Rhythm.{stepOf}
+use mathlib.Core.Path.{_∙_}
+use Rattle.rhythm.specs.Step.{stepOf}
 use borrow.Author.Needs.{needs}
 use Rattle.rhythm.proofs.RhythmState.step.Statement.{statement}
 use Rattle.rhythm.proofs.RhythmState.step.Tie as tie
@@ -14,11 +15,11 @@ max-requires-3 : tie.Need-max-requires-3
 max-requires-3 c κs = search needs
 
 step-by-requires : tie.Need-step-by-requires
-step-by-requires c κs = search needs
+step-by-requires c κs = c .before .before .before .before .before .before .pre
 
 returns : tie.Need-returns
 unfolding stepOf
-returns c = simp (c .step-by .ensures, c .before .max3 .ensures, c .before .before .max2 .ensures, c .before .before .before .max .ensures)
+returns c = c .step-by .ensures ∙ simp (c .before .before .before .before .max3 .ensures, c .before .before .before .before .before .max2 .ensures, c .before .before .before .before .before .before .max .ensures)
 
 pub step-spec : {M : Type 1} → statement M
 step-spec =

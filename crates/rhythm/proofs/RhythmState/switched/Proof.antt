@@ -1,6 +1,6 @@
 -- `rhythm::RhythmState::switched` meets its contract. Assumes nothing.
+use Rattle.rhythm.specs.Step.{switchedOf}
 use Rattle.rhythm.proofs.Signed.{back}
-use Rattle.rhythm.specs.Rhythm.{switchedOf}
 use borrow.Author.Needs.{needs}
 use Rattle.rhythm.proofs.RhythmState.switched.Statement.{statement}
 use Rattle.rhythm.proofs.RhythmState.switched.Tie as tie
@@ -11,9 +11,13 @@ new-with-delta-requires c κs = search needs
 root64-requires : tie.Need-root64-requires
 root64-requires c κs = search needs
 
+entries-after-requires : tie.Need-entries-after-requires
+entries-after-requires c κs = search needs
+
 returns : tie.Need-returns
 unfolding switchedOf
-returns c = simp (c .before .root64 .ensures, c .before .before .before .before .before .new-with-delta .ensures) (simp (back _ (c .before .before .before .before .before .before .fits .delta)))
+returns c = simp (c .entries-after .ensures, c .before .before .root64 .ensures, c .before .before .before .before .before .new-with-delta .ensures) (simp (back _ (c .before .before .before .before .before .before .fits .delta)))
 
 pub switched-spec : {M : Type 1} → statement M
-switched-spec = tie.close (tie.spec new-with-delta-requires root64-requires returns)
+switched-spec =
+    tie.close (tie.spec new-with-delta-requires root64-requires entries-after-requires returns)

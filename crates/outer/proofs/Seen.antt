@@ -1,0 +1,161 @@
+-- The evaluators at a place see the records of a window: those from 32 places before to one after. Two tables that agree there have the same values. Assumes nothing.
+use Prim.Native.Nat.{ℕ, _+_, _-_, min, _≤_, _<_}
+use native.Mathlib.Omega.{arith}
+use mathlib.Core.Path.{_≡_, refl, ap, _∙_}
+use mathlib.Core.Bool.{Bool}
+use mathlib.Core.List.{List}
+use lib.Ieee.{Float, binary32}
+use lib.ListN.{length}
+use Rattle.whole.specs.NarrowLaws.{narrow-widened}
+use Rattle.tables.specs.Parts.{fill}
+use Rattle.tables.specs.Rows.{row-fill-in}
+use Rattle.objects.specs.declared.Layout.{Layout}
+use Rattle.osu_object.specs.Osu.{Object, objectOf}
+use Rattle.osu_object.specs.Base.{baseOf}
+use Rattle.object.specs.declared.OsuDifficultyObject.{OsuDifficultyObject as Record}
+use Rattle.records.specs.Rows.{rowOf, recordAt as entryAt}
+use Rattle.records.proofs.Laws.{row-length, record-is}
+use Rattle.sight.specs.Part.{firstPlace, partAt}
+use Rattle.sight.specs.Sight.{sightOf, viewOf, viewAt}
+use Rattle.sight.proofs.Parts.{before-part}
+use Rattle.aim.specs.Aim.{aimOf}
+use Rattle.aim.proofs.Value.{aim-same}
+use Rattle.speed.specs.Speed.{speedAtPlace}
+use Rattle.speed.proofs.Laws.{speed-same}
+use Rattle.rhythm.specs.Rhythm.{cellOf, rhythmAtPlace}
+use Rattle.rhythm.proofs.Laws.{rhythm-same}
+use Rattle.flashlight.specs.declared.FlashlightEvaluator.{FlashlightEvaluator}
+use Rattle.flashlight.specs.Flashlight.{flashlightOf}
+use Rattle.flashlight.proofs.Walk.{flashlight-same}
+use Rattle.outer.specs.Records.{recordOf, windowOf, slotAt, inWindow, InF32, InF32s}
+use Rattle.outer.proofs.Slots.{slot-is}
+
+-- two tables agree on the places of a window of place j
+abbrev Agree : ℕ → (ℕ → Record) → (ℕ → Record) → Type 0
+Agree j rs qs = (p : ℕ) → firstPlace j ≤ p → p < firstPlace j + 34 → rs p ≡ qs p
+
+-- ---- laws of numbers on their own, with few facts in reach of `omega`
+
+back-from : (c j k : ℕ) → c ≤ 32 → 1 ≤ j → k ≤ min (j - 1) c → firstPlace j ≤ j - k
+back-from c j k h one b = omega arith
+
+back-to : (j k : ℕ) → 1 ≤ j → j - k < firstPlace j + 34
+back-to j k one = omega arith
+
+next-from : (j : ℕ) → 1 ≤ j → firstPlace j ≤ j + 1
+next-from j one = omega arith
+
+next-to : (j : ℕ) → j + 1 < firstPlace j + 34
+next-to j = omega arith
+
+here-from : (j : ℕ) → 1 ≤ j → firstPlace j ≤ j
+here-from j one = omega arith
+
+here-to : (j : ℕ) → j < firstPlace j + 34
+here-to j = omega arith
+
+last-from : (j : ℕ) → 1 < j → firstPlace j ≤ j - 1
+last-from j h = omega arith
+
+slot-of : (a p : ℕ) → p < a + 34 → p - a < 34
+slot-of a p l = omega arith
+
+place-of : (a p : ℕ) → a ≤ p → a + (p - a) ≡ p
+place-of a p h = omega arith
+
+-- ---- the values of tables that agree
+
+module _ (os : ℕ → Object) (rs qs : ℕ → Record) (j : ℕ) (one : 1 ≤ j) (same : Agree j rs qs) where
+  record-back : (c k : ℕ) → c ≤ 32 → k ≤ min (j - 1) c → rs (j - k) ≡ qs (j - k)
+  record-back c k h b = same (j - k) (back-from c j k h one b) (back-to j k one)
+
+  view-back : (c k : ℕ) → c ≤ 32 → k ≤ min (j - 1) c → viewOf os rs j k ≡ viewOf os qs j k
+  view-back c k h b = ap (λ (r : Record). sightOf r (os (j - k))) (record-back c k h b)
+
+  next-delta : rs (j + 1) .«delta_time» ≡ qs (j + 1) .«delta_time»
+  next-delta = ap (λ (r : Record). r .«delta_time») (same (j + 1) (next-from j one) (next-to j))
+
+  pub aim-seen : (sliders : Bool) → aimOf (viewOf os rs j) (j - 1) sliders ≡ aimOf (viewOf os qs j) (j - 1) sliders
+  aim-seen sliders = aim-same (viewOf os rs j) (viewOf os qs j) (j - 1) (j - 1) sliders refl (λ k b. view-back 3 k (omega arith) b)
+
+  pub speed-seen : (last : ℕ) (window : Float) (autopilot : Bool) → speedAtPlace os rs last j window autopilot ≡ speedAtPlace os qs last j window autopilot
+  speed-seen last window autopilot =
+      speed-same os os rs qs last last j j window autopilot
+      (same j (here-from j one) (here-to j))
+      refl
+      (λ h. ap (λ (r : Record). r .«travel_dist») (same (j - 1) (last-from j h) (back-to j 1 one)))
+      refl
+      (λ h. next-delta)
+      refl
+
+  pub rhythm-seen : (last : ℕ) (window : Float) → rhythmAtPlace os rs last j window ≡ rhythmAtPlace os qs last j window
+  rhythm-seen last window =
+      rhythm-same os os rs qs last last j j window
+      refl
+      (λ k b. ap (λ (r : Record). cellOf (baseOf (os (j - k))) r) (record-back 32 k (omega arith) b))
+      refl
+      (λ h. next-delta)
+
+  pub flashlight-seen : (e : FlashlightEvaluator) (repeats : ℕ) (hidden : Bool)
+      → flashlightOf e (viewOf os rs j) (j - 1) repeats hidden ≡ flashlightOf e (viewOf os qs j) (j - 1) repeats hidden
+  flashlight-seen e repeats hidden =
+      flashlight-same e (viewOf os rs j) (viewOf os qs j) (j - 1) (j - 1) repeats repeats hidden refl (λ k b. view-back 10 k (omega arith) b) (λ h. refl)
+
+-- ---- the window of a slice agrees with the slice
+
+pub window-agrees : (rs : List Record) (j : ℕ) → Agree j (inWindow (windowOf rs j) j) (recordOf rs)
+window-agrees rs j p h l = slot-is rs j (p - firstPlace j) (slot-of (firstPlace j) p l) ∙ ap (recordOf rs) (place-of (firstPlace j) p h)
+
+-- ---- the table that a window is put into agrees with the window
+
+abbrev tableOf : List Record → List Float → List Float
+tableOf w t = fill 16 (λ k. rowOf (slotAt w k)) 0 34 t
+
+table-at : (w : List Record) (t : List Float) → 544 ≤ length t → (k : ℕ) → k < 34 → InF32 (slotAt w k) → entryAt (tableOf w t) k ≡ slotAt w k
+table-at w t room k l h =
+    record-is (tableOf w t) k (slotAt w k) (record { x = narrow-widened binary32 _ (h .x); y = narrow-widened binary32 _ (h .y) })
+    (row-fill-in 16 (λ i. rowOf (slotAt w i)) (λ i. row-length (slotAt w i)) k 0 34 t (λ _. room) (omega arith) (omega arith))
+
+table-agrees : (w : List Record) (t : List Float) (j a : ℕ) → 544 ≤ length t → InF32s w → a ≡ firstPlace j → Agree j (partAt (tableOf w t) a) (inWindow w j)
+table-agrees w t j a room ok f p h l =
+    ap (λ (b : ℕ). partAt (tableOf w t) b p) f
+    ∙ table-at w t room (p - firstPlace j) (slot-of (firstPlace j) p l) (ok (p - firstPlace j) (slot-of (firstPlace j) p l))
+
+-- ---- the evaluators over that table
+
+back-twice : (j a k : ℕ) → j - a - k ≡ j - k - a
+back-twice j a k = omega arith
+
+part-view : (t : List Float) (chart : List ℕ) (lay : Layout) (j a k : ℕ) → viewAt t chart lay (j - a) j k ≡ viewOf (objectOf chart lay) (partAt t a) j k
+part-view t chart lay j a k = ap (λ (i : ℕ). sightOf (entryAt t i) (objectOf chart lay (j - k))) (back-twice j a k)
+
+module _ (chart : List ℕ) (lay : Layout) (w : List Record) (t u : List Float) (j a : ℕ)
+    (one : 1 ≤ j) (f : a ≡ firstPlace j) (room : 544 ≤ length t) (ok : InF32s w) (put : u ≡ tableOf w t) where
+  abbrev os : ℕ → Object
+  os = objectOf chart lay
+
+  agrees : Agree j (partAt u a) (inWindow w j)
+  agrees p h l = ap (λ (v : List Float). partAt v a p) put ∙ table-agrees w t j a room ok f p h l
+
+  pub aim-table : (sliders : Bool) → aimOf (viewAt u chart lay (j - a) j) (j - a) sliders ≡ aimOf (viewOf os (inWindow w j) j) (j - 1) sliders
+  aim-table sliders =
+      aim-same (viewAt u chart lay (j - a) j) (viewOf os (partAt u a) j) (j - a) (j - 1) sliders (before-part 3 j a (omega arith) one f)
+      (λ k b. part-view u chart lay j a k)
+      ∙ aim-seen os (partAt u a) (inWindow w j) j one agrees sliders
+
+  pub flashlight-table : (e : FlashlightEvaluator) (repeats : ℕ) (hidden : Bool)
+      → flashlightOf e (viewAt u chart lay (j - a) j) (j - a) repeats hidden ≡ flashlightOf e (viewOf os (inWindow w j) j) (j - 1) repeats hidden
+  flashlight-table e repeats hidden =
+      flashlight-same e (viewAt u chart lay (j - a) j) (viewOf os (partAt u a) j) (j - a) (j - 1) repeats repeats hidden (before-part 10 j a (omega arith) one f)
+      (λ k b. part-view u chart lay j a k) (λ h. refl)
+      ∙ flashlight-seen os (partAt u a) (inWindow w j) j one agrees e repeats hidden
+
+  pub speed-table : (last end : ℕ) → last ≡ end → (window : Float) (autopilot : Bool)
+      → speedAtPlace os (partAt u a) last j window autopilot ≡ speedAtPlace os (inWindow w j) end j window autopilot
+  speed-table last end e window autopilot =
+      ap (λ (l : ℕ). speedAtPlace os (partAt u a) l j window autopilot) e ∙ speed-seen os (partAt u a) (inWindow w j) j one agrees end window autopilot
+
+  pub rhythm-table : (last end : ℕ) → last ≡ end → (window : Float)
+      → rhythmAtPlace os (partAt u a) last j window ≡ rhythmAtPlace os (inWindow w j) end j window
+  rhythm-table last end e window =
+      ap (λ (l : ℕ). rhythmAtPlace os (partAt u a) l j window) e ∙ rhythm-seen os (partAt u a) (inWindow w j) j one agrees end window

@@ -1,0 +1,225 @@
+#!/usr/bin/env python3
+"""Holds a program against the oracle, on charts and scripts of calls that are made anew from a seed.
+
+    compare.py lists TOOLS BUILD PROGRAM [--seed S] [--count N]
+    compare.py scripts TOOLS BUILD PROGRAM [--seed S] [--count N] [--calls C]
+    compare.py lists|scripts TOOLS BUILD --save DIR ...      no program: writes DIR/stdin and DIR/stdout
+
+TOOLS is the folder of the oracle's scripts (mkcharts.py, mkscripts.py), BUILD that of its programs.
+
+lists: PROGRAM reads from standard input for each chart its length (u32, little-endian) and its bytes, and prints the lister's lines for each, one
+after another. The charts are of all styles in turn, to 32,768 bytes; every eighth is damaged, though some of these open. Zeros of either sign are equal.
+
+scripts: PROGRAM reads for each script the chart's length and bytes, the number of calls (u32), and for each call nine words (u32) and the object:
+kind (0 open, 1 replace, 2 record, 3 value, 4 totals, 5 chart), the lengths of the tables of records and of values in entries, four lengths of
+scratch in numbers, the length of the object, 0, the place (u64), the object's bytes. It prints a line for each call: `opened`, `accepted`,
+`refused N PLACE`, `record PLACE` and the sixteen fields, `value PLACE` and the five values, `totals` and the four, or `chart`, the chart's length
+and the FNV-1a 64 of its bytes, with which every script ends. The charts open, and their scripts are lists of calls with no other hand on the chart.
+Floats are compared by their bits.
+
+The last line is `N equal, M different`; the status is 0 if M is 0 and N isn't.
+"""
+import argparse
+import collections
+import os
+import random
+import re
+import shlex
+import struct
+import subprocess
+import sys
+import tempfile
+
+sys.dont_write_bytecode = True
+
+CALLS = ("open", "replace", "record", "value", "totals", "chart")
+CALL = struct.Struct("<9IQ")
+BATCH = 500
+
+
+def damage(rng, b):
+    """A chart cut, lengthened, out of order, too long in time, or with some bits flipped."""
+    how, b, n = rng.random(), bytearray(b), struct.unpack_from("<I", b)[0]
+    if how < 0.15:
+        return bytes(b[:rng.randrange(len(b))])
+    if how < 0.25 and len(b) < 32_000:
+        return bytes(b) + rng.randbytes(rng.randrange(1, 60))
+    if how < 0.4 and n > 1:
+        k = 80 + 56 * rng.randrange(n - 1)
+        b[k:k + 112] = b[k + 56:k + 112] + b[k:k + 56]
+    elif how < 0.55 and n > 0:
+        struct.pack_into("<2d", b, 80 + 56 * (n - 1), 1e7, 1e7)
+    else:
+        for _ in range(rng.choice((1, 1, 1, 2, 4))):
+            b[rng.randrange(len(b)) if rng.random() < 0.8 else rng.randrange(80)] ^= 1 << rng.randrange(8)
+    return bytes(b)
+
+
+def style_chart(mk, seed, i):
+    """The i-th chart of a seed, and its name."""
+    styles = list(mk.STYLES)
+    style, key = styles[i % len(styles)], f"{seed}.{i // len(styles)}"
+    return f"{style} {key}", mk.chart_of(style, key).pack()
+
+
+def list_chart(mk, seed, i):
+    name, b = style_chart(mk, seed, i)
+    return (name + ", damaged", damage(random.Random(f"damage/{seed}/{i}"), b)) if i % 8 == 7 else (name, b)
+
+
+def asked(program, data):
+    p = subprocess.run(program, input=data, stdout=subprocess.PIPE)
+    return p.stdout.decode(errors="replace"), p.returncode
+
+
+class Oracle:
+    """The oracle's answers for charts, which it reads from files."""
+
+    def __init__(self, build, folder):
+        self.program, self.folder = os.path.join(build, "oracle"), folder
+
+    def answers(self, words, charts, scripts=None):
+        text = ""
+        for i, b in enumerate(charts):
+            name = os.path.join(self.folder, f"{i:05}.chart")
+            with open(name, "wb") as file:
+                file.write(b)
+            text += f"file {name}\n" + "".join(line + "\n" for line in scripts[i]) if scripts else name + "\n"
+        out, status = asked([self.program, "batch", *words], text.encode())
+        if status != 0:
+            sys.exit(f"the oracle ends with status {status}")
+        return [part.partition("\n")[2] for part in re.split(r"(?m)^(?=file )", out) if part]
+
+
+def packed_chart(b):
+    return struct.pack("<I", len(b)) + b
+
+
+def packed_call(line):
+    w = line.split()
+    records = values = place = 0
+    scratch, o = [0] * 4, b""
+    if w[0] == "open":
+        records, values = map(int, w[1:])
+    elif w[0] == "replace":
+        place, o, records, values = int(w[1]), bytes.fromhex(w[2].replace("-", "")), int(w[3]), int(w[4])
+    elif w[0] == "record":
+        place, records = map(int, w[1:])
+    elif w[0] == "value":
+        place, values = map(int, w[1:])
+    elif w[0] == "totals":
+        values, scratch = int(w[1]), list(map(int, w[3:]))
+    return CALL.pack(CALLS.index(w[0]), records, values, *scratch, len(o), 0, place) + o
+
+
+def lists(a, oracle):
+    """Batches of charts: names, the program's input, and the answers that it must give."""
+    import mkcharts as mk
+    for first in range(0, a.count, BATCH):
+        made = [list_chart(mk, a.seed, i) for i in range(first, min(first + BATCH, a.count))]
+        charts = [b for _, b in made]
+        yield [name for name, _ in made], b"".join(map(packed_chart, charts)), oracle.answers(["list"], charts)
+
+
+def scripts(a, oracle):
+    import mkcharts as mk
+    import mkscripts
+    for first in range(0, a.count, BATCH):
+        made = [style_chart(mk, a.seed, i) for i in range(first, min(first + BATCH, a.count))]
+        calls = [mkscripts.script(b, a.seed, a.calls, pure=True)[0] + ["chart"] for _, b in made]
+        data = b"".join(packed_chart(b) + struct.pack("<I", len(c)) + b"".join(map(packed_call, c)) for (_, b), c in zip(made, calls))
+        # the oracle ends every script with a line of `chart` itself
+        yield [name for name, _ in made], data, oracle.answers(["script"], [b for _, b in made], [c[:-1] for c in calls])
+
+
+def cut(mode, text, want):
+    """A program's output in the parts that belong to the answers."""
+    if mode == "lists":
+        return [part for part in re.split(r"(?m)^(?=objects |refused )", text) if part]
+    lines, out = text.splitlines(keepends=True), []
+    for answer in want:
+        out.append("".join(lines[:answer.count("\n")]))
+        lines = lines[answer.count("\n"):]
+    return out + ["".join(lines)] * bool(lines)
+
+
+def merged(text):
+    return re.sub(r"\b8(0{15})\b", r"0\1", text)
+
+
+def difference(mode, want, got):
+    """None, or the first line that differs."""
+    if mode == "lists":
+        want, got = merged(want), merged(got)
+    if want == got:
+        return None
+    pairs = zip((want + "(end)").split("\n"), (got + "(end)").split("\n"))
+    return next((f"oracle {w}, program {g}" for w, g in pairs if w != g), "one goes on")
+
+
+class Tally:
+    def __init__(self):
+        self.equal = self.different = 0
+        self.kinds = collections.Counter()
+
+    def add(self, mode, name, want, got):
+        found = "no answer" if got is None else difference(mode, want, got)
+        self.equal += found is None
+        self.different += found is not None
+        for line in want.splitlines():
+            w = line.split()
+            self.kinds["refused " + w[1] if w[0] == "refused" else "places" if w[0].isdigit() else w[0]] += 1
+        if found and self.different <= 10:
+            print(f"{name}: {found}", flush=True)
+
+    def end(self):
+        print(", ".join(f"{kind}: {n}" for kind, n in sorted(self.kinds.items())))
+        print(f"{self.equal} equal, {self.different} different")
+        return self.different != 0 or self.equal == 0
+
+
+def run(a, batches):
+    tally = Tally()
+    for names, data, want in batches:
+        text, status = asked(a.program, data)
+        got = cut(a.mode, text, want)
+        if status != 0 or len(got) > len(want):
+            tally.different += 1
+            print(f"from {names[0]} on: {len(got)} answers to {len(want)}, status {status}")
+        for i, (name, answer) in enumerate(zip(names, want)):
+            tally.add(a.mode, name, answer, got[i] if i < len(got) else None)
+        print(f"{tally.equal + tally.different} compared", file=sys.stderr)
+    return tally.end()
+
+
+def save(a, batches):
+    os.makedirs(a.save, exist_ok=True)
+    with open(os.path.join(a.save, "stdin"), "wb") as data_file, open(os.path.join(a.save, "stdout"), "w") as answer_file:
+        for names, data, want in batches:
+            data_file.write(data)
+            answer_file.write("".join(want))
+    return 0
+
+
+def main():
+    p = argparse.ArgumentParser(usage=__doc__)
+    p.add_argument("mode", choices=("lists", "scripts"))
+    p.add_argument("tools")
+    p.add_argument("build")
+    p.add_argument("program", nargs="?", type=shlex.split)
+    p.add_argument("--seed", default="1")
+    p.add_argument("--count", type=int)
+    p.add_argument("--calls", type=int, default=60)
+    p.add_argument("--save")
+    a = p.parse_args()
+    if bool(a.program) == bool(a.save):
+        p.error("a program or --save")
+    a.count = a.count or {"lists": 20_000, "scripts": 200}[a.mode]
+    sys.path.insert(0, a.tools)
+    with tempfile.TemporaryDirectory() as folder:
+        batches = {"lists": lists, "scripts": scripts}[a.mode](a, Oracle(a.build, folder))
+        return (save if a.save else run)(a, batches)
+
+
+if __name__ == "__main__":
+    sys.exit(main())

@@ -1,0 +1,200 @@
+#!/usr/bin/env python3
+"""Tests of tools/chart.py: python3 -m unittest tools/test_chart.py
+
+The charts are the stored ones of the programs `checks` and `values_main`; the answers are those stored beside them.
+"""
+import os
+import random
+import struct
+import subprocess
+import sys
+import tempfile
+import unittest
+
+ROOT = os.path.dirname(os.path.dirname(os.path.abspath(__file__)))
+sys.path.insert(0, os.path.join(ROOT, "tools"))
+import chart
+
+SETTINGS = "clock-rate 1\nradius 40 px\nhit-window 50 ms\npreempt 600 ms\nfade-in 400 ms\nfactor 1.25\n"
+
+
+def stored(program):
+    """The charts of a program's input: u32 length, bytes, and so on."""
+    with open(os.path.join(ROOT, "crates", program, "stdin"), "rb") as file:
+        data = file.read()
+    charts, at = [], 0
+    while at < len(data):
+        size, = struct.unpack_from("<I", data, at)
+        charts.append(data[at + 4:at + 4 + size])
+        at += 4 + size
+    return charts
+
+
+def lines(program):
+    with open(os.path.join(ROOT, "crates", program, "stdout")) as file:
+        return file.read().splitlines()
+
+
+def text_of(*path):
+    with open(os.path.join(ROOT, *path)) as file:
+        return file.read()
+
+
+class Corpus(unittest.TestCase):
+    def test_round_trip(self):
+        for program in ("checks", "values_main"):
+            for i, b in enumerate(stored(program)):
+                text = chart.to_text(b)
+                self.assertEqual(chart.to_bytes(text), b, f"chart {i} of {program}")
+                self.assertEqual(chart.to_text(chart.to_bytes(text)), text)
+
+    def test_answers(self):
+        charts, answers = stored("checks"), lines("checks")
+        self.assertEqual((len(charts), len(answers)), (3146, 3146))
+        for i, (b, answer) in enumerate(zip(charts, answers)):
+            found = chart.explain(b)
+            self.assertEqual("refused {} {}".format(*found) if found else "opened", answer, f"chart {i}")
+
+    def test_reasons_are_whole_sentences(self):
+        for b in stored("checks"):
+            found = chart.explain(b)
+            if found:
+                self.assertRegex(found[2], r"^(the|it|from) .*\d|^the .* tail|^the .* repeat")
+                self.assertNotRegex(found[2], r"None|[{}\[\]]")
+
+    def test_any_bytes(self):
+        """Charts cut, lengthened and with any words in their headers come back as they were."""
+        rng = random.Random(8)
+        some = [b for b in stored("checks") if 80 < len(b) < 1500]
+        for _ in range(2000):
+            b = bytearray(rng.choice(some))
+            for _ in range(rng.randrange(4)):
+                at = rng.choice((rng.randrange(20), rng.randrange(len(b) // 4))) * 4
+                struct.pack_into("<I", b, at, rng.choice((0, 1, 2, 3, 80, 136, rng.randrange(300), rng.getrandbits(32), 0xFFFFFFFF)))
+            b = bytes(b[:rng.randrange(len(b) + 1)]) if rng.random() < 0.3 else bytes(b) + rng.randbytes(rng.choice((0, 0, 1, 16, 24, 56, 100)))
+            self.assertEqual(chart.to_bytes(chart.to_text(b)), b)
+            chart.explain(b)
+
+
+class Numbers(unittest.TestCase):
+    def test_all_patterns_survive(self):
+        rng = random.Random(9)
+        edges = {32: (0, 1, 0x7FFFFF, 0x800000, 0x3F800000, 0x7F7FFFFF, 0x7F800000, 0x7F800001, 0x7FC00000), 64:
+                 (0, 1, 0xFFFFFFFFFFFFF, 0x10000000000000, 0x3FF0000000000000, 0x7FEFFFFFFFFFFFFF, 0x7FF0000000000000, 0x7FF0000000000001, 0x7FF8000000000000)}
+        for width in (32, 64):
+            for bits in [e | s << width - 1 for e in edges[width] for s in (0, 1)] + [rng.getrandbits(width) for _ in range(20_000)]:
+                self.assertEqual(chart.read_float(chart.show(bits, width), width), bits)
+
+    def test_shortest(self):
+        self.assertEqual(chart.show(chart.bits_of(0.1, 32), 32), "0.1")
+        self.assertEqual(chart.show(chart.bits_of(-3.2, 32), 32), "-3.2")
+        self.assertEqual(chart.show(chart.bits_of(1000.0, 64), 64), "1000")
+        self.assertEqual(chart.show(1 << 63, 64), "-0")
+        self.assertEqual(chart.show(0x7FF8000000000001, 64), "0x7FF8000000000001")
+
+
+class Text(unittest.TestCase):
+    def fails(self, text, message):
+        with self.assertRaises(chart.TextError) as caught:
+            chart.to_bytes(text)
+        self.assertIn(message, str(caught.exception))
+
+    def test_two_circles(self):
+        b = chart.to_bytes(text_of("examples", "two_circles.txt"))
+        self.assertEqual(b[:32], struct.pack("<8I", 2, 0, 0, 80, 192, 192, 192, 0))
+        self.assertEqual(b[32:80], struct.pack("<5dfI", 1, 40, 50, 600, 400, 1.25, 0))
+        self.assertEqual(b[80:136], struct.pack("<2d4f6I", 1000, 1000, 100, 100, *[0] * 8))
+        self.assertEqual(b[136:], struct.pack("<2d4f6I", 2000, 2000, 100, 100, *[0] * 8))
+
+    def test_stored_texts_open(self):
+        for folder in ("examples", "tools/edges"):
+            for name in sorted(os.listdir(os.path.join(ROOT, folder))):
+                b = chart.to_bytes(text_of(folder, name))
+                self.assertIsNone(chart.explain(b, lister=True), name)
+                self.assertEqual(chart.to_bytes(chart.to_text(b)), b)
+
+    def test_counts_and_lengths_are_worked_out(self):
+        b = chart.to_bytes(SETTINGS + "slider at 5 to 9 x 1 y 2\ntail at 9 x 4 y 6\npoint x 0 y 0\npoint x 3 y 4\npoint x 3 y 10\n"
+                                      "slider at 10 to 20 x 0 y 0 spans 3 points 0 2\n  tick at 11 x 1 y 1\n  tail at 20 x 3 y 4\n")
+        c = chart.unpack(b)
+        self.assertEqual([o[7:] for o in c.objects], [(1, 0, 1, 0, 3), (3, 1, 2, 0, 2)])
+        self.assertEqual([chart.value(p[2], 64) for p in c.points], [0, 5, 11])
+        self.assertIsNone(chart.explain(b))
+
+    def test_objects_within_bytes(self):
+        """An object that the text has as bytes has no line of its own."""
+        text = SETTINGS + "header objects 2\nheader nested-at 192\nheader points-at 192\nheader length 192\ncircle at 5 x 1 y 2\n"
+        b, lines = chart.read_text(text + "bytes " + struct.pack("<2d4f6I", 4, 4, *[0] * 10).hex())
+        self.assertEqual(chart.sentence(chart.explain(b), lines), "5 at place 1: it starts at 4, before the object at place 0, which starts at 5")
+
+    def test_errors_name_the_line(self):
+        self.fails(SETTINGS + "circle at 1 x 2", "line 7: y is missing")
+        self.fails(SETTINGS + "\n# a comment\ncircle at 1 x 2 y 3 z 4", "line 9: z does not belong here")
+        self.fails(SETTINGS + "circle at 1 x 2 y nan", "line 7: nan is not a number")
+        self.fails(SETTINGS + "circle at 1 x 2 y 1e39", "line 7: 1e39 is too large for 32 bits")
+        self.fails(SETTINGS + "circle at 1 x 2 y 0x12", "line 7: 0x12 must have 8 hex digits")
+        self.fails(SETTINGS + "circle at 1 at 1 x 2 y 3", "line 7: at is given twice")
+        self.fails(SETTINGS + "circle at 1 x 2 y", "line 7: y has no value")
+        self.fails(SETTINGS + "spinner at 1 x 2 y 3", "line 7: to is missing")
+        self.fails(SETTINGS + "tick at 1 x 2 y 3", "line 7: this tick stands under no slider")
+        self.fails(SETTINGS + "circle at 1 x 2 y 3\npoint x 1 y 1", "line 8: this point stands under no slider")
+        self.fails(SETTINGS + "slider at 1 to 2 x 2 y 3 nested 0 1\ntail at 1 x 1 y 1", "line 8: the slider above already names its nested")
+        self.fails(SETTINGS + "loose point x 1 y 1", "line 7: length is missing")
+        self.fails("radius 40 ms", "line 1: radius takes a number and the unit px")
+        self.fails("radius 40\nradius 50", "line 2: radius is given twice")
+        self.fails("flags hiden", "line 1: hiden is not a whole number")
+        self.fails("header size 5", "line 1: header takes a name")
+        self.fails("bytes 1", "line 1: bytes are pairs")
+        self.fails("bytes 00\nradius 4", "line 2: nothing but bytes")
+        self.fails("radius 40", "clock-rate is not given")
+        self.fails("triangle at 1", "line 1: triangle is not known")
+
+
+class Command(unittest.TestCase):
+    def told(self, *words):
+        p = subprocess.run([sys.executable, os.path.join(ROOT, "tools", "chart.py"), *words], capture_output=True)
+        return p.returncode, p.stdout, p.stderr.decode()
+
+    def test_commands(self):
+        with tempfile.TemporaryDirectory() as folder:
+            name, text = os.path.join(folder, "a.chart"), os.path.join(ROOT, "examples", "two_circles.txt")
+            status, b, _ = self.told("to-bytes", text)
+            self.assertEqual((status, len(b)), (0, 192))
+            with open(name, "wb") as file:
+                file.write(b)
+            self.assertEqual(chart.to_bytes(self.told("to-text", name)[1].decode()), b)
+            self.assertEqual(self.told("explain", name), (0, b"opens: 2 objects, 0 nested entries, 0 points\n", ""))
+            self.assertEqual(self.told("explain", text, "--records", "2", "--values", "1"), (1, b"7: the values have 1 entries, the chart has 2 objects\n", ""))
+
+    def test_explain_names_place_and_line(self):
+        with tempfile.TemporaryDirectory() as folder:
+            name = os.path.join(folder, "a.txt")
+            with open(name, "w") as file:
+                file.write(SETTINGS + "circle at 1 x 2 y 3\n\nslider at 5 to 9 x 1 y 2 spans 0\n  tail at 9 x 4 y 6\n  point x 0 y 0\n")
+            self.assertEqual(self.told("explain", name)[:2], (1, b"3 at place 1, line 9: the slider's spans are 0, allowed are 1 to 1,024\n"))
+            with open(name, "a") as file:
+                file.write("circle\n")
+            self.assertEqual(self.told("explain", name), (2, b"", f"{name}: line 12: at is missing\n"))
+
+
+@unittest.skipUnless(os.path.exists(os.path.join(ROOT, "target", "bin", "lister")), "the lister is not built")
+class Listing(unittest.TestCase):
+    def listed(self, name, data=None):
+        return subprocess.run([os.path.join(ROOT, "tools", "list"), name], input=data, capture_output=True)
+
+    def test_two_circles(self):
+        p = self.listed(os.path.join(ROOT, "examples", "two_circles.txt"))
+        self.assertEqual(p.stdout.decode().splitlines(), [
+            "objects 2", "1 0000000000000000 0000000000000000 3FF0000000000000 3FF0000000000000 0000000000000000",
+            "totals 0000000000000000 0000000000000000 3FF1A3D70A3D70A4 0000000000000000"])
+        self.assertEqual(p.stderr, b"")
+
+    def test_refusals_are_explained(self):
+        p = self.listed("-", bytes(32_769))
+        self.assertEqual((p.stdout, p.stderr), (b"refused 7 0\n", b"7: the chart has 32,769 bytes, the lister takes 32,768 at most\n"))
+        p = self.listed("-", b"")
+        self.assertEqual((p.stdout, p.stderr), (b"refused 1 0\n", b"1: the chart has 0 bytes, its header alone takes 80\n"))
+
+
+if __name__ == "__main__":
+    unittest.main()
