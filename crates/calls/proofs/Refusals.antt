@@ -42,11 +42,6 @@ unfolding met
 met-none n p true e = no-some e
 met-none n p false e = refl
 
-pub found-none : (n : ℕ) (x : Option ℕ) → found n x ≡ none → x ≡ none
-unfolding found
-found-none n none e = refl
-found-none n (some p) e = no-some e
-
 -- ---- The place that conditions 3, 4 and 5 return is the lowest offending one; where they return none, no place offends
 
 pub some-same : {A : Type 0} {a b : A} → some a ≡ some b → a ≡ b
@@ -81,12 +76,6 @@ lowest-found test n j e =
     let (l, q) = taken (firstBelow test n) n j (ltb (firstBelow test n) n) refl e in
     record { below = omega arith; offends = ap test (sym q) ∙ offends test n l; none-lower = λ i h. clean test n i (omega arith) }
 
-pub lowest-none : (test : ℕ → Bool) (n : ℕ) → lowest test n ≡ none → (i : ℕ) → i < n → test i ≡ false
-unfolding lowest
-lowest-none test n e i h =
-    let l : n ≤ firstBelow test n = passed (firstBelow test n) n (ltb (firstBelow test n) n) refl e in
-    clean test n i (omega arith)
-
 or-false : (a b : Bool) → (a || b) ≡ false → (a ≡ false) × (b ≡ false)
 or-false true b e = let z : _≡_ {A = ℕ} 0 1 = cc in absurd (omega arith)
 or-false false b e = (refl, e)
@@ -105,16 +94,6 @@ module _ (R : Rules) where
   pub c2-met : (b : List ℕ) → Opens R b → c2 b ≡ false
   unfolding chartConditions
   c2-met b e = met-none 2 0 (c2 b) (first-cons _ _ (first-cons _ _ e .1) .0)
-
-  -- a chart that opens has no offending place
-  pub none-offend : (b : List ℕ) → Opens R b → (j : ℕ) → j < count b → (c3 b j ≡ false) × (c4 b j ≡ false) × (c5 b j ≡ false)
-  unfolding chartConditions bodyConditions
-  none-offend b e j h =
-      let q : firstOf (bodyConditions R b) ≡ none = first-cons _ _ (first-cons _ _ e .1) .1 in
-      let (x, q3) = first-cons _ _ q in
-      let (y, q4) = first-cons _ _ q3 in
-      let (z, q5) = first-cons _ _ q4 in
-      (lowest-none (c3 b) (count b) (found-none 3 _ x) j h, lowest-none (c4 b) (count b) (found-none 4 _ y) j h, lowest-none (c5 b) (count b) (found-none 5 _ z) j h)
 
   -- conditions 1 to 6, from 1, 2 and 3 to 6
   pub opens-by : (b : List ℕ) → c1 b ≡ false → c2 b ≡ false → firstOf (bodyConditions R b) ≡ none → Opens R b

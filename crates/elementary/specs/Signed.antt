@@ -189,10 +189,6 @@ pub i64-sub-lit : (n a b k : ℕ) → toZ w64 n ≡ diff a b → toZ w64 n -ℤ 
 i64-sub-lit n a b k e =
     ap₂ (λ (x y : ℤ). x -ℤ y) e (pos-diff k) ∙ diff-sub a b k 0 ∙ diff-same (a + 0) (b + k) a (b + k) (omega arith)
 
-pub i64-lit-sub : (n a b k : ℕ) → toZ w64 n ≡ diff a b → pos k -ℤ toZ w64 n ≡ diff (k + b) a
-i64-lit-sub n a b k e =
-    ap₂ (λ (x y : ℤ). x -ℤ y) (pos-diff k) e ∙ diff-sub k 0 a b ∙ diff-same (k + b) (0 + a) (k + b) a (omega arith)
-
 pub i64-add-lit : (n a b k : ℕ) → toZ w64 n ≡ diff a b → toZ w64 n +ℤ pos k ≡ diff (a + k) b
 i64-add-lit n a b k e =
     ap₂ (λ (x y : ℤ). x +ℤ y) e (pos-diff k) ∙ diff-add a b k 0 ∙ diff-same (a + k) (b + 0) (a + k) b (omega arith)

@@ -1,4 +1,10 @@
-// The functions on numbers and the check of a chart under C names, for the benchmarks.
+// The functions on numbers, the evaluators and the check of a chart under C names, for the benchmarks.
+ghost use mathlib.Core.Path.{_≡_};
+ghost use Prim.Native.Nat.{_*_, _≤_, _<_};
+ghost use lib.ListN.{length};
+ghost use Rattle.osu_object.specs.Osu.{Ready};
+use objects::Layout;
+use opening::Settings;
 use opening::Verdict;
 
 #[no_mangle]
@@ -62,4 +68,48 @@ pub extern "C" fn rattle_check(chart: &[u8], entries: usize) -> u64 {
 
 fn code(number: usize, place: usize) -> u64 {
     (number % 16) as u64 * 0x1_0000_0000 + (place % 0x1_0000_0000) as u64
+}
+
+// One evaluator's value of a place: 0 aim, 1 speed, 2 rhythm, 3 flashlight.
+fn value_at(which: usize, t: &[f64], chart: &[u8], lay: Layout, set: Settings, j: usize) -> f64
+    requires { ⌜ Ready (now chart) lay × (1 ≤ j) × (j < lay .n) × (16 * lay .n ≤ length (now t)) ⌝ }
+{
+    let n = lay.n;
+    if which == 0 {
+        return aim::evaluate_place(t, chart, lay, n, j, true);
+    }
+    if which == 1 {
+        return speed::evaluate_place(t, chart, lay, j, set.hit_window, set.autopilot);
+    }
+    if which == 2 {
+        return rhythm::evaluate_place(t, chart, lay, j, set.hit_window);
+    }
+    let light = flashlight::evaluator_of(set);
+    light.evaluate_place(t, chart, lay, n, j, set.hidden)
+}
+
+fn sum_values(which: usize, t: &[f64], chart: &[u8], lay: Layout, set: Settings) -> f64
+    requires { ⌜ Ready (now chart) lay × (16 * lay .n ≤ length (now t)) ⌝ }
+{
+    let n = lay.n;
+    let mut sum = 0.0;
+    let mut j = 1;
+    while j < n {
+        sum = sum + value_at(which, t, chart, lay, set, j);
+        j += 1;
+    }
+    sum
+}
+
+// The sum of one evaluator over all places of a chart whose records are in the table; 0 where the chart does not open.
+#[no_mangle]
+pub extern "C" fn rattle_evaluate(which: usize, chart: &[u8], records: &[f64]) -> f64 {
+    match opening::check(chart, records.len() / 16) {
+        Verdict::Refused(_) => 0.0,
+        Verdict::Accepted => {
+            let lay = opening::layout_of(chart);
+            let set = opening::settings_at(chart, 32);
+            sum_values(which, records, chart, lay, set)
+        }
+    }
 }

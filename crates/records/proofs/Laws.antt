@@ -10,7 +10,7 @@ use lib.Seq.{sets, getD-take, getD-drop}
 use lib.Ieee.{Float, nan, ne, eq, ofBits, binary32}
 use Rattle.whole.specs.Narrow.{narrow}
 use Rattle.tables.specs.Parts.{part, row}
-use Rattle.tables.specs.Rows.{sets-put, row-put-same, row-put-other}
+use Rattle.tables.specs.Rows.{sets-put}
 use Rattle.object.specs.declared.OsuDifficultyObject.{OsuDifficultyObject}
 use Rattle.records.specs.Rows.{numberOf, flagOf, recordFrom, rowOf, recordAt, putRecord}
 
@@ -71,18 +71,6 @@ record-same t u j i e = record-row t j ∙ ap (λ (v : List Float). recordFrom (
 
 pub record-is : (t : List Float) (j : ℕ) (r : OsuDifficultyObject) → InF32 r → row 16 t j ≡ rowOf r → recordAt t j ≡ r
 record-is t j r h e = record-row t j ∙ ap (λ (v : List Float). recordFrom (λ k. getD v k nan)) e ∙ record-of-row r h
-
--- ---- a store
-
-next-row : (j n : ℕ) → 16 * j + 16 ≤ n → 16 * suc j ≤ n
-next-row j n h = omega arith
-
-module _ (t : List Float) (j : ℕ) (r : OsuDifficultyObject) (l : 16 * j + 16 ≤ length t) where
-  pub record-put-same : InF32 r → recordAt (putRecord t j r) j ≡ r
-  record-put-same h = record-is (putRecord t j r) j r h (row-put-same 16 j (rowOf r) t (row-length r) (next-row j (length t) l))
-
-  pub record-put-other : (i : ℕ) → (i ≡ j → ⊥) → recordAt (putRecord t j r) i ≡ recordAt t i
-  record-put-other i ne = record-same (putRecord t j r) t i i (row-put-other 16 i j (rowOf r) t (row-length r) (next-row j (length t) l) ne)
 
 -- xs stored one by one from place base + k on, as the code has it
 abbrev pub writes : List Float → ℕ → ℕ → List Float → List Float

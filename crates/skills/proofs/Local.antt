@@ -5,15 +5,12 @@ use Prim.Native.Nat.{ℕ, zero, suc, _-_, _≤_, _<_}
 use native.Mathlib.Omega.{arith}
 use lib.Ieee.{Float}
 use lib.ListN.{length}
-use Rattle.floats.specs.Numbers.{_⊖_, _⊘_, zero64}
+use Rattle.floats.specs.Numbers.{zero64}
 use Rattle.floats.specs.Compare.{maxOf}
-use Rattle.objects.specs.Objects.{fieldsOf}
-use Rattle.objects.specs.declared.Layout.{Layout}
 use Rattle.skills.specs.declared.Skill.{Skill}
 use Rattle.skills.specs.declared.Skill.the-variants.{Aim, AimNoSliders, Speed, Flashlight}
 use Rattle.skills.specs.Value.{difficultyOf}
 use Rattle.skills.specs.Strains.{strainNext, joined, initialStrain, room, Walk, firstEnd, closeTo, join, closed, reached, walk, peaksTo, current, strainAt, strains, totalTo, total}
-use Rattle.skills.specs.Chart.{startAt, deltaAt}
 
 -- ---- the walk sees the start times and strains up to its place, and joins the strain there by max
 
@@ -116,16 +113,3 @@ module _ (starts deltas : ℕ → Float) (vs : ℕ → List Float) where
   total-by-strains k (suc (suc n)) h =
       let e : suc n ≡ suc (suc n) - 1 = omega arith in
       ap (λ (m : ℕ). difficultyOf k (peaksTo k starts (strainAt deltas vs k) m)) e
-
--- ---- a chart's start and delta times
-
-module _ (clock : Float) (s s' : List ℕ) (lay lay' : Layout) where
-  pub start-local : (j : ℕ) → (1 ≤ j → fieldsOf s lay j .start ≡ fieldsOf s' lay' j .start) → startAt s lay clock j ≡ startAt s' lay' clock j
-  unfolding startAt
-  start-local zero h = refl
-  start-local (suc j) h = ap (λ (x : Float). x ⊘ clock) (h (omega arith))
-
-  pub delta-local : (j : ℕ) → fieldsOf s lay j .start ≡ fieldsOf s' lay' j .start → fieldsOf s lay (j - 1) .start ≡ fieldsOf s' lay' (j - 1) .start
-      → deltaAt s lay clock j ≡ deltaAt s' lay' clock j
-  unfolding deltaAt
-  delta-local j h l = λ t. (h t ⊖ l t) ⊘ clock

@@ -171,9 +171,6 @@ module _ (n : ℕ) (d : ℤ) (some : 0 < n) (slow : down d ≤ n * up d * 4) whe
   bound (time m e l) = l
   bound (minus e) = le-trans (le-of-eq (zero-mul (up e))) zero-le
 
-  size-held : {t : Float} → Time t → Held (part (num t) (den t)) 40000000
-  size-held {t} v = held-part (num t) (den t) (den-pos t) (bound v)
-
   -- the end of the first section, and the first start by its size
   first : {t : Float} → Time t → First (div binary64 t (fin false n d))
   first (time m e l) =

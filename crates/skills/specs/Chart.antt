@@ -12,7 +12,7 @@ use Rattle.skills.specs.declared.Skills.{Skills}
 use Rattle.skills.specs.Strains.{peaksTo, strainAt, totalTo, total}
 
 -- the chart holds what the layout says, and the table has a row for each place
-pub record Lent (s : List ℕ) (lay : Layout) (values : List Float) : Type 0 where
+pub record Readable (s : List ℕ) (lay : Layout) (values : List Float) : Type 0 where
   pub holds : Holds s lay
   pub rows : 5 * lay .n ≤ length values
 

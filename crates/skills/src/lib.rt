@@ -6,7 +6,7 @@ ghost use Rattle.floats.specs.Numbers.{zero64};
 ghost use Rattle.objects.specs.Objects.{Holds, fieldsOf};
 ghost use Rattle.tables.specs.Parts.{row, fill};
 ghost use Rattle.skills.specs.Strains as strains;
-ghost use Rattle.skills.specs.Chart.{Lent, strainRow, peaksOf, totalOf, totalsOf};
+ghost use Rattle.skills.specs.Chart.{Readable, strainRow, peaksOf, totalOf, totalsOf};
 ghost use Rattle.skills.specs.Shown.{shown, opened, joined};
 
 mod aim;
@@ -194,7 +194,7 @@ fn walk(
     skill: Skill,
     peaks: &mut [f64],
 ) -> usize
-    requires { ⌜ (Lent (now chart) lay (now values)) × (2 ≤ lay .n) × (8192 ≤ length (now peaks)) ⌝ }
+    requires { ⌜ (Readable (now chart) lay (now values)) × (2 ≤ lay .n) × (8192 ≤ length (now peaks)) ⌝ }
     ensures { λ r. ⌜ (r ≤ 8192) × (take r (now (peaks .exit)) ≡ peaksOf (now (chart .entry)) lay clock (now (values .entry)) skill) ⌝ }
 {
     let n = lay.n;
@@ -229,7 +229,7 @@ pub fn strains_into(
     skill: Skill,
     out: &mut [f64],
 )
-    requires { ⌜ (Lent (now chart) lay (now values)) × (lay .n ≤ length (now out)) ⌝ }
+    requires { ⌜ (Readable (now chart) lay (now values)) × (lay .n ≤ length (now out)) ⌝ }
     ensures { λ _. ⌜ now (out .exit) ≡ fill 1 (strainRow (now (chart .entry)) lay clock (now (values .entry)) skill) 1 (lay .n - 1) (now (out .entry)) ⌝ }
 {
     let n = lay.n;
@@ -258,7 +258,7 @@ fn skill_total(
     peaks: &mut [f64],
     tmp: &mut [f64],
 ) -> f64
-    requires { ⌜ (Lent (now chart) lay (now values)) × (8192 ≤ length (now peaks)) × (8192 ≤ length (now tmp)) ⌝ }
+    requires { ⌜ (Readable (now chart) lay (now values)) × (8192 ≤ length (now peaks)) × (8192 ≤ length (now tmp)) ⌝ }
     ensures { λ r. ⌜ r ≡ totalOf (now (chart .entry)) lay clock (now (values .entry)) skill ⌝ }
 {
     if lay.n < 2 {
@@ -289,7 +289,7 @@ pub fn totals(
     c: &mut [f64],
     d: &mut [f64],
 ) -> Skills
-    requires { ⌜ (Lent (now chart) lay (now values)) × (8192 ≤ length (now a)) × (8192 ≤ length (now b)) × (8192 ≤ length (now c)) × (8192 ≤ length (now d)) ⌝ }
+    requires { ⌜ (Readable (now chart) lay (now values)) × (8192 ≤ length (now a)) × (8192 ≤ length (now b)) × (8192 ≤ length (now c)) × (8192 ≤ length (now d)) ⌝ }
     ensures result { λ r. ⌜ r ≡ totalsOf (now (chart .entry)) lay clock (now (values .entry)) ⌝ }
     ensures first { λ _. ⌜ now (a .exit) ≡ replicate (length (now (a .entry))) zero64 ⌝ }
     ensures second { λ _. ⌜ now (b .exit) ≡ replicate (length (now (b .entry))) zero64 ⌝ }

@@ -58,10 +58,6 @@ module _ {ℓ} {A : Type ℓ} where
   unfolding part
   part-put-after i n at vs l h k = ap (take n) (drop-put i at vs l h k)
 
-  pub length-part : (i n : ℕ) (l : List A) → i + n ≤ length l → length (part i n l) ≡ n
-  unfolding part
-  length-part i n l h = length-take-le n (drop i l) (simp length-drop (omega arith))
-
   -- rows
   pub row-put-same : (w j : ℕ) (vs t : List A) → length vs ≡ w → w * suc j ≤ length t → row w (put (w * j) vs t) j ≡ vs
   unfolding row

@@ -1,0 +1,96 @@
+//! Microseconds of each call on charts of several sizes, lower quartile of the runs. Where a folder with the oracle's programs is named as the argument, their
+//! times on the same charts stand beside: `source` works out the records and the four skills' totals, as opening and totals do. The oracle's are
+//! the best of its runs by the wall's clock: on a busy machine they are too high for the large charts.
+mod charts;
+mod clock;
+#[path = "../clients/station.rs"]
+mod station;
+use charts::{chart, put};
+use clock::quartile;
+use station::{OBJECT, RECORD, SCRATCH, TOTALS, VALUES};
+use std::process::Command;
+
+const SIZES: [usize; 4] = [100, 1000, 4000, 16384];
+
+struct Station {
+    chart: Vec<u8>,
+    records: Vec<f64>,
+    values: Vec<f64>,
+    scratch: [Vec<f64>; 4],
+    n: usize,
+}
+
+impl Station {
+    fn new(n: usize) -> Self {
+        let scratch = std::array::from_fn(|_| vec![0.0; SCRATCH]);
+        Station { chart: chart(n), records: vec![0.0; RECORD * n], values: vec![0.0; VALUES * n], scratch, n }
+    }
+
+    fn open(&mut self) {
+        station::open(&self.chart, &mut self.records, &mut self.values).unwrap();
+    }
+
+    fn totals(&mut self) {
+        let scratch = self.scratch.each_mut().map(|s| &mut s[..]);
+        station::totals(&self.chart, &self.values, scratch, &mut [0.0; TOTALS]).unwrap();
+    }
+
+    /// Moves the object to and fro.
+    fn replace(&mut self, place: usize, turn: usize) {
+        let mut object = [0; OBJECT];
+        object.copy_from_slice(&self.chart[80 + OBJECT * place..][..OBJECT]);
+        put(&mut object, 16, &(100.0 + (turn % 2) as f32).to_le_bytes());
+        station::replace(&mut self.chart, place, &object, &mut self.records, &mut self.values).unwrap();
+    }
+
+    fn read(&mut self, turn: usize) {
+        let place = 1 + turn % (self.n - 1);
+        station::read_record(&self.chart, &self.records, place, &mut [0.0; RECORD]).unwrap();
+        station::read_values(&self.chart, &self.values, place, &mut [0.0; VALUES]).unwrap();
+    }
+}
+
+/// Microseconds of the oracle's `source`, best of its runs.
+fn oracle(folder: &str, program: &str, chart: &str) -> f64 {
+    let told = Command::new(format!("{folder}/{program}")).args(["bench", chart]).output().expect("the oracle runs");
+    let told = String::from_utf8(told.stdout).unwrap();
+    let line = told.lines().find(|l| l.starts_with("source")).expect("its line `source`");
+    let seconds = line.split("best ").nth(1).and_then(|rest| rest.split(',').next()).expect("the best of its runs");
+    seconds.parse::<f64>().unwrap() * 1e6
+}
+
+fn main() {
+    let folder = std::env::args().nth(1);
+    println!("microseconds of processor time, lower quartile of the runs");
+    println!("{:>6} {:>10} {:>8} {:>10} {:>10} {:>10} {:>9} {:>8} {:>8}", "N", "open", "per N", "replace 0", "at N/2", "at N-1", "readings", "totals", "open/rep");
+    let mut both = vec![];
+    for n in SIZES {
+        let mut s = Station::new(n);
+        let open = quartile(|_| s.open());
+        let replace = [0, n / 2, n - 1].map(|place| quartile(|turn| s.replace(place, turn)));
+        let read = quartile(|turn| (0..100).for_each(|k| s.read(100 * turn + k))) / 100.0;
+        let totals = quartile(|_| s.totals());
+        let slowest = replace.into_iter().fold(0.0, f64::max);
+        println!(
+            "{n:>6} {open:>10.1} {:>8.3} {:>10.1} {:>10.1} {:>10.1} {read:>9.3} {totals:>8.1} {:>8.1}",
+            open / n as f64, replace[0], replace[1], replace[2], open / slowest
+        );
+        both.push((s, open + totals));
+    }
+    let Some(folder) = folder else {
+        println!("no folder with the oracle's programs was named: no comparison");
+        return;
+    };
+    println!("{:>6} {:>12} {:>12} {:>8} {:>12} {:>8}", "N", "open+totals", "oracle", "ratio", "native", "ratio");
+    for (s, first) in &mut both {
+        let name = format!("target/bench-{}.chart", s.n);
+        std::fs::write(&name, &s.chart).unwrap();
+        let (bound, native) = (oracle(&folder, "oracle", &name), oracle(&folder, "oracle-native", &name));
+        let again = quartile(|_| {
+            s.open();
+            s.totals();
+        });
+        let ours = first.min(again);
+        println!("{:>6} {ours:>12.1} {bound:>12.1} {:>8.2} {native:>12.1} {:>8.2}", s.n, ours / bound, ours / native);
+    }
+}

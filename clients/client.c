@@ -1,0 +1,109 @@
+/* Opens a chart, drags one of its objects a thousand times, and prints what a station would show. client.rs does the same. */
+#include <inttypes.h>
+#include <stdio.h>
+#include <stdlib.h>
+#include <string.h>
+
+#include "../include/station.h"
+
+struct station {
+    uint8_t *chart;
+    size_t length, objects;
+    double *records, *values, *scratch[4];
+    size_t records_length, values_length;
+};
+
+static void *claim(size_t count, size_t size) {
+    void *p = calloc(count + 1, size);
+    if (!p) { fputs("out of memory\n", stderr); exit(1); }
+    return p;
+}
+
+static uint8_t *read_file(const char *name, size_t *length) {
+    FILE *f = fopen(name, "rb");
+    if (!f) { perror(name); exit(1); }
+    fseek(f, 0, SEEK_END);
+    *length = (size_t)ftell(f);
+    rewind(f);
+    uint8_t *bytes = claim(*length, 1);
+    if (fread(bytes, 1, *length, f) != *length) { perror(name); exit(1); }
+    fclose(f);
+    return bytes;
+}
+
+static void print_answer(const char *what, uint64_t answer) {
+    if (answer == 0) printf("%s: carried out\n", what);
+    else printf("%s: refused %u %" PRIu32 "\n", what, difficulty_number(answer), difficulty_place(answer));
+}
+
+static void print_numbers(const char *what, const double *numbers, size_t count) {
+    printf("%s", what);
+    for (size_t i = 0; i < count; i++) {
+        uint64_t bits;
+        memcpy(&bits, &numbers[i], 8);
+        printf(" %016" PRIX64, bits);
+    }
+    printf("\n");
+}
+
+static uint64_t replace(struct station *s, size_t place, const uint8_t *object, size_t length) {
+    return difficulty_replace(s->chart, s->length, place, object, length, s->records, s->records_length, s->values, s->values_length);
+}
+
+static void show(struct station *s, size_t place) {
+    double out[DIFFICULTY_RECORD];
+    if (difficulty_read_values(s->chart, s->length, s->values, s->values_length, place, out, DIFFICULTY_VALUES) == 0)
+        print_numbers("values", out, DIFFICULTY_VALUES);
+    if (difficulty_read_record(s->chart, s->length, s->records, s->records_length, place, out, DIFFICULTY_RECORD) == 0)
+        print_numbers("record", out, DIFFICULTY_RECORD);
+    uint64_t answer = difficulty_totals(s->chart, s->length, s->values, s->values_length,
+                                        s->scratch[0], DIFFICULTY_SCRATCH, s->scratch[1], DIFFICULTY_SCRATCH,
+                                        s->scratch[2], DIFFICULTY_SCRATCH, s->scratch[3], DIFFICULTY_SCRATCH, out, DIFFICULTY_TOTALS);
+    if (answer == 0) print_numbers("totals", out, DIFFICULTY_TOTALS);
+    else print_answer("totals", answer);
+}
+
+/* Moves the object to and fro. Every tenth step drops it outside the field (3), every seventeenth past the last place (8), every
+ * twenty-third is cut short (3 at its place). */
+static void drag(struct station *s, size_t place) {
+    uint8_t object[DIFFICULTY_OBJECT];
+    unsigned answers[9] = {0};
+    memcpy(object, s->chart + 80 + DIFFICULTY_OBJECT * place, DIFFICULTY_OBJECT);
+    for (int step = 0; step < 1000; step++) {
+        float x = step % 10 == 9 ? 200000.0f : 100.0f + (float)(step % 40 < 20 ? step % 20 : 20 - step % 20);
+        memcpy(object + 16, &x, 4);
+        uint64_t answer = replace(s, step % 17 == 16 ? s->objects : place, object, step % 23 == 22 ? 40 : DIFFICULTY_OBJECT);
+        answers[difficulty_number(answer)]++;
+        if (step % 250 == 0) show(s, place);
+    }
+    for (unsigned n = 0; n < 9; n++)
+        if (answers[n] && n) printf("refused %u: %u times\n", n, answers[n]);
+        else if (answers[n]) printf("carried out: %u times\n", answers[n]);
+}
+
+int main(int count, char **arguments) {
+    if (count != 2) { fputs("usage: client CHART\n", stderr); return 2; }
+    struct station s = {0};
+    s.chart = read_file(arguments[1], &s.length);
+    uint32_t n = 0;
+    if (s.length >= 4) n = s.chart[0] | (uint32_t)s.chart[1] << 8 | (uint32_t)s.chart[2] << 16 | (uint32_t)s.chart[3] << 24;
+    s.objects = n <= 16384 ? n : 0;
+    s.records_length = DIFFICULTY_RECORD * s.objects;
+    s.values_length = DIFFICULTY_VALUES * s.objects;
+    s.records = claim(s.records_length, sizeof(double));
+    s.values = claim(s.values_length, sizeof(double));
+    for (int i = 0; i < 4; i++) s.scratch[i] = claim(DIFFICULTY_SCRATCH, sizeof(double));
+    printf("objects %zu\n", s.objects);
+    uint64_t answer = difficulty_open(s.chart, s.length, s.records, s.records_length, s.values, s.values_length);
+    print_answer("opening", answer);
+    if (answer == 0 && s.objects > 1) {
+        show(&s, s.objects / 2);
+        drag(&s, s.objects / 2);
+        show(&s, s.objects / 2);
+    }
+    for (int i = 0; i < 4; i++) free(s.scratch[i]);
+    free(s.values);
+    free(s.records);
+    free(s.chart);
+    return 0;
+}

@@ -1,0 +1,88 @@
+//! Opens a chart, drags one of its objects a thousand times, and prints what a station would show. client.c does the same.
+mod station;
+use station::{Answer, OBJECT, RECORD, SCRATCH, TOTALS, VALUES};
+
+struct Station {
+    chart: Vec<u8>,
+    records: Vec<f64>,
+    values: Vec<f64>,
+    scratch: [Vec<f64>; 4],
+    objects: usize,
+}
+
+fn print_answer(what: &str, answer: Answer) {
+    match answer {
+        Ok(()) => println!("{what}: carried out"),
+        Err(r) => println!("{what}: refused {} {}", r.number, r.place),
+    }
+}
+
+fn print_numbers(what: &str, numbers: &[f64]) {
+    print!("{what}");
+    for x in numbers {
+        print!(" {:016X}", x.to_bits());
+    }
+    println!();
+}
+
+impl Station {
+    fn show(&mut self, place: usize) {
+        let (mut values, mut record, mut totals) = ([0.0; VALUES], [0.0; RECORD], [0.0; TOTALS]);
+        if station::read_values(&self.chart, &self.values, place, &mut values).is_ok() {
+            print_numbers("values", &values);
+        }
+        if station::read_record(&self.chart, &self.records, place, &mut record).is_ok() {
+            print_numbers("record", &record);
+        }
+        let scratch = self.scratch.each_mut().map(|s| &mut s[..]);
+        match station::totals(&self.chart, &self.values, scratch, &mut totals) {
+            Ok(()) => print_numbers("totals", &totals),
+            refused => print_answer("totals", refused),
+        }
+    }
+
+    /// Moves the object to and fro. Every tenth step drops it outside the field (3), every seventeenth past the last place (8), every
+    /// twenty-third is cut short (3 at its place).
+    fn drag(&mut self, place: usize) {
+        let at = 80 + OBJECT * place;
+        let mut object = self.chart[at..at + OBJECT].to_vec();
+        let mut answers = [0; 9];
+        for step in 0..1000usize {
+            let to_and_fro = if step % 40 < 20 { step % 20 } else { 20 - step % 20 };
+            let x = if step % 10 == 9 { 200000.0 } else { 100.0 + to_and_fro as f32 };
+            object[16..20].copy_from_slice(&x.to_le_bytes());
+            let to = if step % 17 == 16 { self.objects } else { place };
+            let length = if step % 23 == 22 { 40 } else { OBJECT };
+            let answer = station::replace(&mut self.chart, to, &object[..length], &mut self.records, &mut self.values);
+            answers[answer.map_or_else(|r| r.number as usize, |()| 0)] += 1;
+            if step % 250 == 0 {
+                self.show(place);
+            }
+        }
+        for (n, times) in answers.iter().enumerate().filter(|&(_, &times)| times > 0) {
+            println!("{}: {times} times", if n > 0 { format!("refused {n}") } else { "carried out".to_string() });
+        }
+    }
+}
+
+fn main() {
+    let name = std::env::args().nth(1).expect("usage: client CHART");
+    let chart = std::fs::read(name).expect("the chart can be read");
+    let n = chart.get(..4).map_or(0, |b| u32::from_le_bytes(b.try_into().unwrap()) as usize);
+    let objects = if n <= 16384 { n } else { 0 };
+    let mut s = Station {
+        chart,
+        records: vec![0.0; RECORD * objects],
+        values: vec![0.0; VALUES * objects],
+        scratch: std::array::from_fn(|_| vec![0.0; SCRATCH]),
+        objects,
+    };
+    println!("objects {objects}");
+    let answer = station::open(&s.chart, &mut s.records, &mut s.values);
+    print_answer("opening", answer);
+    if answer.is_ok() && objects > 1 {
+        s.show(objects / 2);
+        s.drag(objects / 2);
+        s.show(objects / 2);
+    }
+}

@@ -1,0 +1,393 @@
+//! Throws random charts, short tables and wild places at every call, and checks after each what holds of every answer:
+//!     fuzz SEED CALLS [FOLDER]
+//! With a folder, the charts, the calls and the answers are written there, for tools/fuzz_compare.py.
+mod station;
+use station::{Answer, Refusal, OBJECT, RECORD, SCRATCH, TOTALS, VALUES};
+use std::fmt::Write;
+
+const HEADER: usize = 80;
+const MOST: usize = 60;
+
+struct Random(u64);
+
+impl Random {
+    fn word(&mut self) -> u64 {
+        self.0 ^= self.0 << 13;
+        self.0 ^= self.0 >> 7;
+        self.0 ^= self.0 << 17;
+        self.0.wrapping_mul(0x2545_F491_4F6C_DD1D)
+    }
+
+    fn below(&mut self, n: usize) -> usize {
+        ((self.word() >> 32) as usize) % n
+    }
+
+    fn one_in(&mut self, n: usize) -> bool {
+        self.below(n) == 0
+    }
+
+    fn wild(&mut self) -> f64 {
+        let special = [f64::NAN, f64::INFINITY, -1.0, -0.0, 5e-324, 1e7, 10_000_000.5, 131_073.0, 1e300];
+        if self.one_in(3) { f64::from_bits(self.word()) } else { special[self.below(special.len())] }
+    }
+}
+
+fn put(bytes: &mut [u8], at: usize, field: &[u8]) {
+    if at + field.len() <= bytes.len() {
+        bytes[at..at + field.len()].copy_from_slice(field);
+    }
+}
+
+fn count(chart: &[u8]) -> usize {
+    chart.get(..4).map_or(0, |b| u32::from_le_bytes(b.try_into().unwrap()) as usize)
+}
+
+/// The 56 bytes of an object that starts at a time; a slider uses the two nested entries and the two points of its place.
+fn object(r: &mut Random, place: usize, time: f64) -> Vec<u8> {
+    let mut o = vec![0; OBJECT];
+    let kind = [0u32, 0, 1, 2][r.below(4)];
+    put(&mut o, 0, &time.to_le_bytes());
+    put(&mut o, 8, &(time + [0.0, 60.0, 500.0][kind as usize]).to_le_bytes());
+    put(&mut o, 16, &(r.below(512) as f32).to_le_bytes());
+    put(&mut o, 20, &(r.below(384) as f32).to_le_bytes());
+    put(&mut o, 32, &kind.to_le_bytes());
+    if kind == 1 {
+        for (k, v) in [1 + r.below(3), 2 * place, 2, 2 * place, 2].into_iter().enumerate() {
+            put(&mut o, 36 + 4 * k, &(v as u32).to_le_bytes());
+        }
+    }
+    o
+}
+
+/// A chart that opens.
+fn chart(r: &mut Random) -> Vec<u8> {
+    let most = [3, 12, 12, MOST][r.below(4)];
+    let n = r.below(most);
+    let (nested_at, points_at) = (HEADER + OBJECT * n, HEADER + (OBJECT + 48) * n);
+    let end = points_at + 32 * n;
+    let mut s = vec![0; end];
+    for (k, v) in [n, 2 * n, 2 * n, HEADER, nested_at, points_at, end].into_iter().enumerate() {
+        put(&mut s, 4 * k, &(v as u32).to_le_bytes());
+    }
+    for (k, v) in [[1.0, 1.5, 0.75][r.below(3)], 40.0, 50.0, 600.0, 400.0f64].into_iter().enumerate() {
+        put(&mut s, 32 + 8 * k, &v.to_le_bytes());
+    }
+    put(&mut s, 72, &1.25f32.to_le_bytes());
+    put(&mut s, 76, &(r.below(4) as u32).to_le_bytes());
+    let mut time = 1000.0f64;
+    for j in 0..n {
+        let o = object(r, j, time);
+        put(&mut s, HEADER + OBJECT * j, &o);
+        for (k, kind) in [r.below(2) as u32, 2].into_iter().enumerate() {
+            let at = nested_at + 24 * (2 * j + k);
+            put(&mut s, at, &(time + 30.0 * (k + 1) as f64).to_le_bytes());
+            put(&mut s, at + 8, &(r.below(512) as f32).to_le_bytes());
+            put(&mut s, at + 16, &kind.to_le_bytes());
+        }
+        let at = points_at + 16 * (2 * j + 1);
+        put(&mut s, at, &(r.below(200) as f32).to_le_bytes());
+        put(&mut s, at + 8, &(r.below(300) as f64).to_le_bytes());
+        time += [0.0, 30.0, 90.0, 120.0, 180.0, 700.0][r.below(6)];
+    }
+    s
+}
+
+/// One piece of damage; none changes the length of the chart.
+fn damage(r: &mut Random, s: &mut [u8]) -> (usize, Vec<u8>) {
+    let n = count(s).min(MOST);
+    let (at, field) = match r.below(12) {
+        0 => (4 * r.below(20), (r.below(90_000) as u32).to_le_bytes().to_vec()),
+        1 => (32 + 8 * r.below(5), r.wild().to_le_bytes().to_vec()),
+        2 | 3 => (HEADER + OBJECT * r.below(n + 1) + 8 * r.below(2), r.wild().to_le_bytes().to_vec()),
+        4..=6 => (HEADER + OBJECT * r.below(n + 1) + 32 + 4 * r.below(6), (r.below(1100) as u32).to_le_bytes().to_vec()),
+        7..=10 => (HEADER + OBJECT * n + 4 * r.below(20 * n + 1), (r.wild() as f32).to_le_bytes().to_vec()),
+        _ => (r.below(s.len() + 1), vec![r.word() as u8]),
+    };
+    let field = if at + field.len() <= s.len() { field } else { vec![] };
+    let at = if field.is_empty() { 0 } else { at };
+    put(s, at, &field);
+    (at, field)
+}
+
+/// A chart for a round: sound, damaged, cut, lengthened, or noise.
+fn any_chart(r: &mut Random) -> Vec<u8> {
+    let mut s = chart(r);
+    match r.below(10) {
+        0..=4 => {}
+        5 | 6 | 7 => drop(damage(r, &mut s)),
+        8 => (0..3).for_each(|_| drop(damage(r, &mut s))),
+        _ if r.one_in(2) => s.resize(r.below(s.len() + 40), 7),
+        _ => s = (0..r.below(400)).map(|_| r.word() as u8).collect(),
+    }
+    s
+}
+
+fn hex(bytes: &[u8]) -> String {
+    if bytes.is_empty() { "-".into() } else { bytes.iter().map(|b| format!("{b:02X}")).collect() }
+}
+
+fn words(numbers: &[f64]) -> String {
+    numbers.iter().map(|x| format!(" {:016X}", if x.is_nan() { 0x7FF8_0000_0000_0000 } else { x.to_bits() })).collect()
+}
+
+/// A record in the oracle's order of printing: each flag before its numbers.
+fn record_words(x: &[f64]) -> String {
+    let single = |v: f64| format!(" {:08X}", (v as f32).to_bits());
+    let flag = |v: f64| format!(" {}", (v != 0.0) as u8);
+    words(&x[..8]) + &flag(x[14]) + &single(x[8]) + &single(x[9]) + &words(&x[10..12]) + &flag(x[15]) + &words(&x[12..14])
+}
+
+fn same(a: &[f64], b: &[f64]) -> bool {
+    a.len() == b.len() && a.iter().zip(b).all(|(x, y)| x.to_bits() == y.to_bits())
+}
+
+/// Rows lo to hi - 1 of a table are the same in both; hi beyond the last is taken as the end.
+fn same_rows(w: usize, a: &[f64], b: &[f64], lo: usize, hi: usize) -> bool {
+    let end = (w * hi).min(a.len());
+    let start = (w * lo).min(end);
+    same(&a[start..end], &b[start..end])
+}
+
+#[derive(Default)]
+struct Counts {
+    calls: [u64; 5],
+    refused: [u64; 9],
+    compared: u64,
+}
+
+struct Round {
+    chart: Vec<u8>,
+    records: Vec<f64>,
+    values: Vec<f64>,
+    scratch: [Vec<f64>; 4],
+    fresh: bool,
+    script: String,
+    answers: String,
+}
+
+impl Round {
+    fn new(r: &mut Random, scratch: [Vec<f64>; 4]) -> Self {
+        let chart = any_chart(r);
+        let n = count(&chart).min(MOST) + r.below(3);
+        let records = (0..RECORD * n + r.below(20)).map(|_| r.wild()).collect();
+        let values = (0..VALUES * n + r.below(7)).map(|_| r.wild()).collect();
+        Round { chart, records, values, scratch, fresh: false, script: String::new(), answers: String::new() }
+    }
+
+    /// A length to lend of a table: most often all of it, else any part, or about as much as N entries take.
+    fn length(&self, r: &mut Random, whole: usize, w: usize) -> usize {
+        match r.below(8) {
+            0 => r.below(whole + 1),
+            1 => (w * count(&self.chart).min(MOST) + r.below(3)).saturating_sub(1).min(whole),
+            _ => whole,
+        }
+    }
+
+    fn place(&self, r: &mut Random) -> usize {
+        let n = count(&self.chart).min(MOST);
+        match r.below(10) {
+            0 => n + r.below(3),
+            1 => [usize::MAX, 1 << 32, (1 << 32) + 1, 1 << 63, 65_536][r.below(5)],
+            2 => 0,
+            3 | 4 => n.saturating_sub(1),
+            _ => r.below(n + 1),
+        }
+    }
+
+    fn tell(&mut self, answer: Answer, done: String) {
+        match answer {
+            Ok(()) => writeln!(self.answers, "{done}").unwrap(),
+            Err(Refusal { number, place }) => writeln!(self.answers, "refused {number} {place}").unwrap(),
+        }
+    }
+
+    /// What an opening of the chart as it stands puts into other tables.
+    fn opened_afresh(&self) -> (Vec<f64>, Vec<f64>) {
+        let n = count(&self.chart);
+        let (mut records, mut values) = (vec![7.0; RECORD * n], vec![7.0; VALUES * n]);
+        assert_eq!(station::open(&self.chart, &mut records, &mut values), Ok(()), "a chart that was accepted opens");
+        (records, values)
+    }
+
+    fn check_fresh(&self) {
+        let (records, values) = self.opened_afresh();
+        assert!(same_rows(RECORD, &records, &self.records, 1, count(&self.chart)), "records as a fresh opening's");
+        assert!(same_rows(VALUES, &values, &self.values, 1, count(&self.chart)), "values as a fresh opening's");
+    }
+
+    fn open(&mut self, r: &mut Random) -> Answer {
+        let (rl, vl) = (self.length(r, self.records.len(), RECORD), self.length(r, self.values.len(), VALUES));
+        writeln!(self.script, "open {} {}", rl / RECORD, vl / VALUES).unwrap();
+        let (chart, records, values) = (self.chart.clone(), self.records.clone(), self.values.clone());
+        let answer = station::open(&self.chart, &mut self.records[..rl], &mut self.values[..vl]);
+        assert!(chart == self.chart, "opening leaves the chart");
+        let n = if answer.is_ok() { count(&self.chart) } else { 0 };
+        assert!(same_rows(RECORD, &records, &self.records, 0, 1.min(n)) && same_rows(RECORD, &records, &self.records, n, usize::MAX / 64));
+        assert!(same_rows(VALUES, &values, &self.values, 0, 1.min(n)) && same_rows(VALUES, &values, &self.values, n, usize::MAX / 64));
+        if answer.is_ok() {
+            self.fresh = true;
+            self.check_fresh();
+        }
+        self.tell(answer, "opened".into());
+        answer
+    }
+
+    fn new_object(&self, r: &mut Random, place: usize) -> Vec<u8> {
+        let n = count(&self.chart).min(MOST);
+        let at = HEADER + OBJECT * place.min(n);
+        let old = self.chart.get(at..at.saturating_add(8)).map_or(0.0, |b| f64::from_le_bytes(b.try_into().unwrap()));
+        let near = place.min(n.max(1) - n.min(1));
+        let time = if r.one_in(6) { old + [40.0, 900.0, 4e6, -300.0][r.below(4)] } else { old };
+        let mut o = object(r, near, time);
+        match r.below(8) {
+            0 => put(&mut o, 8 * r.below(2), &r.wild().to_le_bytes()),
+            1 => put(&mut o, 16 + 4 * r.below(10), &(r.word() as u32).to_le_bytes()),
+            2 => o.truncate(r.below(60)),
+            3 => o.resize(56 + r.below(9), 0),
+            _ => {}
+        }
+        o
+    }
+
+    fn replace(&mut self, r: &mut Random) -> Answer {
+        let place = self.place(r);
+        let o = self.new_object(r, place);
+        let (rl, vl) = (self.length(r, self.records.len(), RECORD), self.length(r, self.values.len(), VALUES));
+        writeln!(self.script, "replace {place} {} {} {}", hex(&o), rl / RECORD, vl / VALUES).unwrap();
+        let (mut chart, records, values) = (self.chart.clone(), self.records.clone(), self.values.clone());
+        let answer = station::replace(&mut self.chart, place, &o, &mut self.records[..rl], &mut self.values[..vl]);
+        if answer.is_ok() {
+            put(&mut chart, HEADER + OBJECT * place, &o);
+            let end = usize::MAX / 64;
+            assert!(same_rows(RECORD, &records, &self.records, 0, place.max(1)) && same_rows(RECORD, &records, &self.records, place + 3, end));
+            assert!(same_rows(VALUES, &values, &self.values, 0, place.max(2) - 1) && same_rows(VALUES, &values, &self.values, place + 34, end));
+            if self.fresh {
+                self.check_fresh();
+            }
+        } else {
+            assert!(same(&records, &self.records) && same(&values, &self.values), "a refusal leaves the tables");
+        }
+        assert!(chart == self.chart, "the chart has the object, and is else as it was");
+        self.tell(answer, "accepted".into());
+        answer
+    }
+
+    /// A reading of either table into a slice that has room or has not.
+    fn read(&mut self, r: &mut Random, record: bool) -> Answer {
+        let (w, table) = if record { (RECORD, &self.records) } else { (VALUES, &self.values) };
+        let (place, length) = (self.place(r), self.length(r, table.len(), w));
+        let room = if r.one_in(8) { r.below(w) } else { w + r.below(3) };
+        let usable = if room < w { 0 } else { length / w };
+        let mut out: Vec<f64> = (0..room).map(|_| r.wild()).collect();
+        let (before, chart, kept) = (out.clone(), self.chart.clone(), table.clone());
+        let read = if record { station::read_record } else { station::read_values };
+        let answer = read(&self.chart, &table[..length], place, &mut out);
+        assert!(chart == self.chart && same(&kept, table), "a reading changes neither chart nor table");
+        let written = if answer.is_ok() { w } else { 0 };
+        assert!(same(&before[written..], &out[written..]), "nothing else is written");
+        if answer.is_ok() && self.fresh {
+            assert!(same(&out[..w], &table[w * place..][..w]), "the row that the table has");
+        }
+        let word = if record { "record" } else { "value" };
+        let numbers = if written == 0 { String::new() } else if record { record_words(&out) } else { words(&out[..w]) };
+        writeln!(self.script, "{word} {place} {usable}").unwrap();
+        self.tell(answer, format!("{word} {place}{numbers}"));
+        answer
+    }
+
+    fn totals(&mut self, r: &mut Random) -> Answer {
+        let vl = self.length(r, self.values.len(), VALUES);
+        let lengths: [usize; 4] = std::array::from_fn(|_| if r.one_in(12) { r.below(SCRATCH) } else { SCRATCH });
+        let room = if r.one_in(8) { r.below(TOTALS) } else { TOTALS + r.below(3) };
+        for s in &mut self.scratch {
+            let k = r.below(SCRATCH);
+            s[k] = r.wild();
+        }
+        let mut out: Vec<f64> = (0..room).map(|_| r.wild()).collect();
+        let (before, chart, values, scratch) = (out.clone(), self.chart.clone(), self.values.clone(), self.scratch.clone());
+        let mut k = 0;
+        let slices = self.scratch.each_mut().map(|s| { k += 1; &mut s[..lengths[k - 1]] });
+        let answer = station::totals(&self.chart, &self.values[..vl], slices, &mut out);
+        assert!(chart == self.chart && same(&values, &self.values), "totals change neither chart nor table");
+        if answer.is_ok() {
+            assert!(self.scratch.iter().flatten().all(|x| x.to_bits() == 0), "all scratch is 0");
+            assert!(same(&before[TOTALS..], &out[TOTALS..]));
+        } else {
+            assert!(same(&before, &out) && self.scratch.iter().zip(&scratch).all(|(a, b)| same(a, b)), "a refusal writes nothing");
+        }
+        let told = if room < TOTALS { [0; 4] } else { lengths };
+        writeln!(self.script, "totals {} / {} {} {} {}", vl / VALUES, told[0], told[1], told[2], told[3]).unwrap();
+        let numbers = if answer.is_ok() { words(&out[..TOTALS]) } else { String::new() };
+        self.tell(answer, format!("totals{numbers}"));
+        answer
+    }
+
+    /// Another hand writes to the chart; the tables are no longer its own.
+    fn poke(&mut self, r: &mut Random) {
+        let (at, field) = damage(r, &mut self.chart);
+        writeln!(self.script, "poke {at} {}", hex(&field)).unwrap();
+        self.answers.push_str("poked\n");
+        self.fresh &= field.is_empty();
+    }
+
+    fn call(&mut self, r: &mut Random, counts: &mut Counts) {
+        if r.one_in(40) {
+            self.poke(r);
+        }
+        let which = [0, 1, 1, 1, 2, 2, 3, 3, 4][r.below(9)];
+        let answer = match which {
+            0 => self.open(r),
+            1 => self.replace(r),
+            2 => self.read(r, true),
+            3 => self.read(r, false),
+            _ => self.totals(r),
+        };
+        counts.calls[which] += 1;
+        counts.compared += (answer.is_ok() && self.fresh) as u64;
+        let number = answer.map_or_else(|refusal| {
+            let placed = (3..=5).contains(&refusal.number);
+            assert!((1..=8).contains(&refusal.number) && (placed || refusal.place == 0), "{refusal:?}");
+            assert!(!placed || (refusal.place as usize) < count(&self.chart), "{refusal:?}");
+            refusal.number
+        }, |()| 0);
+        counts.refused[number as usize] += 1;
+    }
+}
+
+fn fnv(bytes: &[u8]) -> u64 {
+    bytes.iter().fold(0xCBF2_9CE4_8422_2325, |h, b| (h ^ *b as u64).wrapping_mul(0x0100_0000_01B3))
+}
+
+fn main() {
+    let words: Vec<String> = std::env::args().skip(1).collect();
+    let (seed, calls): (u64, u64) = (words[0].parse().unwrap(), words[1].parse().unwrap());
+    let folder = words.get(2);
+    let mut r = Random(seed.wrapping_mul(0x9E37_79B9_7F4A_7C15) | 1);
+    let mut counts = Counts::default();
+    let mut scratch: [Vec<f64>; 4] = std::array::from_fn(|_| vec![0.0; SCRATCH]);
+    let (mut script, mut answers, mut rounds) = (String::new(), String::new(), 0);
+    while counts.calls.iter().sum::<u64>() < calls {
+        let mut round = Round::new(&mut r, scratch);
+        if let Some(folder) = folder {
+            let name = format!("{folder}/{rounds}.chart");
+            std::fs::write(&name, &round.chart).unwrap();
+            writeln!(round.script, "file {name}").unwrap();
+            writeln!(round.answers, "file {name}").unwrap();
+        }
+        (0..20).for_each(|_| round.call(&mut r, &mut counts));
+        if folder.is_some() {
+            writeln!(round.answers, "chart {} {:016X}", round.chart.len(), fnv(&round.chart)).unwrap();
+            script += &round.script;
+            answers += &round.answers;
+        }
+        scratch = round.scratch;
+        rounds += 1;
+    }
+    if let Some(folder) = folder {
+        std::fs::write(format!("{folder}/scripts"), script).unwrap();
+        std::fs::write(format!("{folder}/answers"), answers).unwrap();
+    }
+    let [open, replace, record, value, totals] = counts.calls;
+    println!("seed {seed}: {rounds} charts; open {open}, replace {replace}, read record {record}, read values {value}, totals {totals}");
+    println!("carried out {}, refused by number {:?}; {} of those carried out were on the chart's own tables", counts.refused[0], &counts.refused[1..], counts.compared);
+}

@@ -1,0 +1,73 @@
+//! The library's calls for a program in Rust: what include/station.h says of them in C holds here too.
+#![allow(dead_code)]
+
+pub const OBJECT: usize = 56;
+pub const RECORD: usize = 16;
+pub const VALUES: usize = 5;
+pub const TOTALS: usize = 4;
+pub const SCRATCH: usize = 8192;
+
+mod library {
+    extern "C" {
+        pub fn difficulty_open(c: *const u8, cl: usize, r: *mut f64, rl: usize, v: *mut f64, vl: usize) -> u64;
+        pub fn difficulty_replace(c: *mut u8, cl: usize, place: usize, o: *const u8, ol: usize, r: *mut f64, rl: usize, v: *mut f64, vl: usize) -> u64;
+        pub fn difficulty_read_record(c: *const u8, cl: usize, r: *const f64, rl: usize, place: usize, out: *mut f64, ol: usize) -> u64;
+        pub fn difficulty_read_values(c: *const u8, cl: usize, v: *const f64, vl: usize, place: usize, out: *mut f64, ol: usize) -> u64;
+        pub fn difficulty_totals(
+            c: *const u8, cl: usize, v: *const f64, vl: usize, aim: *mut f64, al: usize, still: *mut f64, nl: usize,
+            speed: *mut f64, sl: usize, light: *mut f64, ll: usize, out: *mut f64, ol: usize,
+        ) -> u64;
+    }
+}
+
+/// A refusal, or what was carried out.
+pub type Answer = Result<(), Refusal>;
+
+#[derive(Clone, Copy, Debug, PartialEq, Eq)]
+pub struct Refusal {
+    pub number: u32,
+    pub place: u32,
+}
+
+pub fn answer(code: u64) -> Answer {
+    if code == 0 { Ok(()) } else { Err(Refusal { number: (code >> 32) as u32, place: code as u32 }) }
+}
+
+// SAFETY of all five: a slice's pointer and length are valid for the call, and a `&mut` overlaps nothing.
+
+pub fn open(chart: &[u8], records: &mut [f64], values: &mut [f64]) -> Answer {
+    answer(unsafe {
+        library::difficulty_open(chart.as_ptr(), chart.len(), records.as_mut_ptr(), records.len(), values.as_mut_ptr(), values.len())
+    })
+}
+
+pub fn replace(chart: &mut [u8], place: usize, object: &[u8], records: &mut [f64], values: &mut [f64]) -> Answer {
+    answer(unsafe {
+        library::difficulty_replace(
+            chart.as_mut_ptr(), chart.len(), place, object.as_ptr(), object.len(),
+            records.as_mut_ptr(), records.len(), values.as_mut_ptr(), values.len(),
+        )
+    })
+}
+
+pub fn read_record(chart: &[u8], records: &[f64], place: usize, out: &mut [f64]) -> Answer {
+    answer(unsafe {
+        library::difficulty_read_record(chart.as_ptr(), chart.len(), records.as_ptr(), records.len(), place, out.as_mut_ptr(), out.len())
+    })
+}
+
+pub fn read_values(chart: &[u8], values: &[f64], place: usize, out: &mut [f64]) -> Answer {
+    answer(unsafe {
+        library::difficulty_read_values(chart.as_ptr(), chart.len(), values.as_ptr(), values.len(), place, out.as_mut_ptr(), out.len())
+    })
+}
+
+pub fn totals(chart: &[u8], values: &[f64], scratch: [&mut [f64]; 4], out: &mut [f64]) -> Answer {
+    let [aim, still, speed, light] = scratch;
+    answer(unsafe {
+        library::difficulty_totals(
+            chart.as_ptr(), chart.len(), values.as_ptr(), values.len(), aim.as_mut_ptr(), aim.len(), still.as_mut_ptr(), still.len(),
+            speed.as_mut_ptr(), speed.len(), light.as_mut_ptr(), light.len(), out.as_mut_ptr(), out.len(),
+        )
+    })
+}

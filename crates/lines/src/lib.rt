@@ -1,0 +1,114 @@
+// Lines of the programs' answers. As in `text`, each function appends at an offset of a lent buffer and returns the offset behind what it wrote.
+use evaluators::Values;
+use object::OsuDifficultyObject;
+use opening::Refusal;
+use skills::Skills;
+
+// A space and the bits of a number.
+pub fn put_f64(out: &mut [u8], at: usize, x: f64) -> usize {
+    let end = text::put(out, at, b' ');
+    text::put_f64(out, end, x)
+}
+
+fn put_f32(out: &mut [u8], at: usize, x: f32) -> usize {
+    let end = text::put(out, at, b' ');
+    text::put_f32(out, end, x)
+}
+
+fn put_flag(out: &mut [u8], at: usize, flag: bool) -> usize {
+    let end = text::put(out, at, b' ');
+    if flag {
+        return text::put(out, end, b'1');
+    }
+    text::put(out, end, b'0')
+}
+
+// The word refused, the number of the condition and the place.
+pub fn put_refusal(out: &mut [u8], at: usize, r: Refusal) -> usize {
+    let word = text::put_all(out, at, b"refused ");
+    let number = text::put_decimal(out, word, r.number() as u64);
+    let space = text::put(out, number, b' ');
+    let place = text::put_decimal(out, space, r.place() as u64);
+    text::put(out, place, b'\n')
+}
+
+// The word objects and how many there are.
+pub fn put_count(out: &mut [u8], at: usize, n: usize) -> usize {
+    let word = text::put_all(out, at, b"objects ");
+    let count = text::put_decimal(out, word, n as u64);
+    text::put(out, count, b'\n')
+}
+
+// A place and its five values.
+pub fn put_values(out: &mut [u8], at: usize, j: usize, v: Values) -> usize {
+    let place = text::put_decimal(out, at, j as u64);
+    let aim = put_f64(out, place, v.aim);
+    let aim_no_sliders = put_f64(out, aim, v.aim_no_sliders);
+    let speed = put_f64(out, aim_no_sliders, v.speed);
+    let rhythm = put_f64(out, speed, v.rhythm);
+    let flashlight = put_f64(out, rhythm, v.flashlight);
+    text::put(out, flashlight, b'\n')
+}
+
+// A number for each skill, and the line's end.
+pub fn put_skills(out: &mut [u8], at: usize, t: Skills) -> usize {
+    let aim = put_f64(out, at, t.aim);
+    let aim_no_sliders = put_f64(out, aim, t.aim_no_sliders);
+    let speed = put_f64(out, aim_no_sliders, t.speed);
+    let flashlight = put_f64(out, speed, t.flashlight);
+    text::put(out, flashlight, b'\n')
+}
+
+// The word totals and the four of them.
+pub fn put_totals(out: &mut [u8], at: usize, t: Skills) -> usize {
+    let word = text::put_all(out, at, b"totals");
+    put_skills(out, word, t)
+}
+
+// Times and distances from the object before.
+fn put_jump(out: &mut [u8], at: usize, r: OsuDifficultyObject) -> usize {
+    let start = put_f64(out, at, r.start_time);
+    let delta = put_f64(out, start, r.delta_time);
+    let adjusted = put_f64(out, delta, r.adjusted_delta_time);
+    let jump = put_f64(out, adjusted, r.lazy_jump_dist);
+    let least = put_f64(out, jump, r.min_jump_dist);
+    put_f64(out, least, r.min_jump_time)
+}
+
+// What a slider has.
+fn put_travel(out: &mut [u8], at: usize, r: OsuDifficultyObject) -> usize {
+    let distance = put_f64(out, at, r.travel_dist);
+    let time = put_f64(out, distance, r.travel_time);
+    let flag = put_flag(out, time, r.has_lazy_end);
+    let x = put_f32(out, flag, r.lazy_end_x);
+    let y = put_f32(out, x, r.lazy_end_y);
+    let lazy = put_f64(out, y, r.lazy_travel_dist);
+    put_f64(out, lazy, r.lazy_travel_time)
+}
+
+// A place and the sixteen fields of its record.
+pub fn put_record(out: &mut [u8], at: usize, j: usize, r: OsuDifficultyObject) -> usize {
+    let place = text::put_decimal(out, at, j as u64);
+    let jump = put_jump(out, place, r);
+    let travel = put_travel(out, jump, r);
+    let flag = put_flag(out, travel, r.has_angle);
+    let angle = put_f64(out, flag, r.angle);
+    let small = put_f64(out, angle, r.small_circle_bonus);
+    text::put(out, small, b'\n')
+}
+
+// Writes the first n bytes of the buffer.
+pub fn show(out: &[u8], n: usize) {
+    if n <= out.len() {
+        io::write_all(1, &out[0..n]);
+    }
+}
+
+// Writes them once half of the buffer is full; the offset at which the next line begins.
+pub fn show_if_full(out: &[u8], n: usize) -> usize {
+    if n <= out.len() / 2 {
+        return n;
+    }
+    show(out, n);
+    0
+}

@@ -1,0 +1,56 @@
+-- `station::difficulty_open` meets its contract. Assumes nothing.
+use mathlib.Core.Path.{sym, ap, _∙_}
+use Rattle.calls.specs.Verdicts.{metBy}
+use Rattle.station.specs.Codes.{metCode}
+use borrow.Author.Needs.{needs}
+use Rattle.station.proofs.difficulty_open.Statement.{statement}
+use Rattle.station.proofs.difficulty_open.Tie as tie
+
+open-requires : tie.Need-open-requires
+open-requires c κs = search needs
+
+enum-known-r : tie.Need-enum-known-r
+enum-known-r c = search needs
+
+code-requires : tie.Need-code-requires
+code-requires c κs = search needs
+
+enum-told : tie.Need-enum-told
+enum-told c = search needs
+
+same-length : tie.Need-same-length
+same-length c = search needs
+
+same-length-2 : tie.Need-same-length-2
+same-length-2 c = search needs
+
+returns : tie.Need-returns
+returns c =
+    let e = c .before .before .before .before .before .before .before .before .«open» .ensures in
+    (c .code .ensures ∙ ap metCode (ap metBy (sym (c .before .before .r .given .1)) ∙ e .0), e .1)
+
+same-length-3 : tie.Need-same-length-3
+same-length-3 c = search needs
+
+same-length-4 : tie.Need-same-length-4
+same-length-4 c = search needs
+
+returns-2 : tie.Need-returns-2
+returns-2 c =
+    let e = c .before .before .before .before .before .before .«open» .ensures in
+    (ap metCode (ap metBy (sym (c .enum-told .given .1)) ∙ e .0), e .1)
+
+pub difficulty-open-spec : {M : Type 1} → statement M
+difficulty-open-spec =
+    tie.close
+    (tie.spec
+    open-requires
+    enum-known-r
+    code-requires
+    enum-told
+    same-length
+    same-length-2
+    returns
+    same-length-3
+    same-length-4
+    returns-2)

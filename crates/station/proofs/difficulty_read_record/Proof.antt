@@ -1,0 +1,58 @@
+-- `station::difficulty_read_record` meets its contract. Assumes nothing.
+use mathlib.Core.Path.{sym, ap, _∙_}
+use native.Mathlib.Omega.{arith}
+use lib.ListN.{length}
+use Rattle.tables.specs.Parts.{put}
+use Rattle.calls.specs.Calls.{Answer}
+use Rattle.editor.specs.Answers.{recordAnswer}
+use Rattle.station.specs.Codes.{codeOf, numbersOf}
+use Rattle.station.proofs.Rooms.{put-none, record-room}
+use borrow.Author.Needs.{needs}
+use Rattle.station.proofs.difficulty_read_record.Statement.{statement}
+use Rattle.station.proofs.difficulty_read_record.Tie as tie
+
+record-into-requires : tie.Need-record-into-requires
+record-into-requires c κs = search needs
+
+enum-known-r : tie.Need-enum-known-r
+enum-known-r c = search needs
+
+code-requires : tie.Need-code-requires
+code-requires c κs = search needs
+
+enum-known-x : tie.Need-enum-known-x
+enum-known-x c = search needs
+
+put-record-requires : tie.Need-put-record-requires
+put-record-requires c κs =
+    let a = c .before .before .before .before .before .before .before .before .args in
+    let p = sym (ap recordAnswer (c .before .before .x .given .1)) ∙ c .before .before .before .before .record-into .ensures in
+    (omega arith, omega (arith, record-room (a .place) (length (a .out .now)) (a .chart .now) (a .records .now) _ p))
+
+returns : tie.Need-returns
+returns c =
+    let a = c .before .before .before .before .before .before .before .before .args in
+    let p = sym (ap recordAnswer (c .before .before .r .given .1)) ∙ c .before .before .before .before .record-into .ensures in
+    (c .code .ensures ∙ ap codeOf p, put-none (a .out .now) ∙ ap (λ (x : Answer). put 0 (numbersOf x) (a .out .now)) p)
+
+same-length : tie.Need-same-length
+same-length c = search needs
+
+returns-2 : tie.Need-returns-2
+returns-2 c =
+    let a = c .before .before .before .before .before .before .before .before .before .before .before .args in
+    let p = sym (ap recordAnswer (c .before .before .before .before .before .x .given .1)) ∙ c .before .before .before .before .before .before .before .record-into .ensures in
+    (ap codeOf p, c .before .before .put-record .ensures ∙ ap (λ (x : Answer). put 0 (numbersOf x) (a .out .now)) p)
+
+pub difficulty-read-record-spec : {M : Type 1} → statement M
+difficulty-read-record-spec =
+    tie.close
+    (tie.spec
+    record-into-requires
+    enum-known-r
+    code-requires
+    enum-known-x
+    put-record-requires
+    returns
+    same-length
+    returns-2)

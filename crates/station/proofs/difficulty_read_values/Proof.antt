@@ -1,0 +1,58 @@
+-- `station::difficulty_read_values` meets its contract. Assumes nothing.
+use mathlib.Core.Path.{sym, ap, _∙_}
+use native.Mathlib.Omega.{arith}
+use lib.ListN.{length}
+use Rattle.tables.specs.Parts.{put}
+use Rattle.calls.specs.Calls.{Answer}
+use Rattle.editor.specs.Answers.{valuesAnswer}
+use Rattle.station.specs.Codes.{codeOf, numbersOf}
+use Rattle.station.proofs.Rooms.{put-none, values-room}
+use borrow.Author.Needs.{needs}
+use Rattle.station.proofs.difficulty_read_values.Statement.{statement}
+use Rattle.station.proofs.difficulty_read_values.Tie as tie
+
+values-into-requires : tie.Need-values-into-requires
+values-into-requires c κs = search needs
+
+enum-known-r : tie.Need-enum-known-r
+enum-known-r c = search needs
+
+code-requires : tie.Need-code-requires
+code-requires c κs = search needs
+
+enum-known-v : tie.Need-enum-known-v
+enum-known-v c = search needs
+
+put-values-requires : tie.Need-put-values-requires
+put-values-requires c κs =
+    let a = c .before .before .before .before .before .before .before .before .args in
+    let p = sym (ap valuesAnswer (c .before .before .v .given .1)) ∙ c .before .before .before .before .values-into .ensures in
+    (omega arith, omega (arith, values-room (a .place) (length (a .out .now)) (a .chart .now) (a .values .now) _ p))
+
+returns : tie.Need-returns
+returns c =
+    let a = c .before .before .before .before .before .before .before .before .args in
+    let p = sym (ap valuesAnswer (c .before .before .r .given .1)) ∙ c .before .before .before .before .values-into .ensures in
+    (c .code .ensures ∙ ap codeOf p, put-none (a .out .now) ∙ ap (λ (x : Answer). put 0 (numbersOf x) (a .out .now)) p)
+
+same-length : tie.Need-same-length
+same-length c = search needs
+
+returns-2 : tie.Need-returns-2
+returns-2 c =
+    let a = c .before .before .before .before .before .before .before .before .before .before .before .args in
+    let p = sym (ap valuesAnswer (c .before .before .before .before .before .v .given .1)) ∙ c .before .before .before .before .before .before .before .values-into .ensures in
+    (ap codeOf p, c .before .before .put-values .ensures ∙ ap (λ (x : Answer). put 0 (numbersOf x) (a .out .now)) p)
+
+pub difficulty-read-values-spec : {M : Type 1} → statement M
+difficulty-read-values-spec =
+    tie.close
+    (tie.spec
+    values-into-requires
+    enum-known-r
+    code-requires
+    enum-known-v
+    put-values-requires
+    returns
+    same-length
+    returns-2)

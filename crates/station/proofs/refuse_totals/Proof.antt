@@ -1,0 +1,28 @@
+-- `station::refuse_totals` meets its contract. Assumes nothing.
+use mathlib.Core.Path.{sym, _∙_}
+use Rattle.calls.specs.Verdicts.{totalsVerdict}
+use borrow.Author.Needs.{needs}
+use Rattle.station.proofs.refuse_totals.Statement.{statement}
+use Rattle.station.proofs.refuse_totals.Tie as tie
+
+check-requires : tie.Need-check-requires
+check-requires c κs = search needs
+
+enum-known-r : tie.Need-enum-known-r
+enum-known-r c = search needs
+
+enum-told : tie.Need-enum-told
+enum-told c = search needs
+
+returns : tie.Need-returns
+unfolding totalsVerdict
+returns c =
+    simp (sym (c .before .before .before .check .ensures) ∙ c .before .r .given .1)
+
+returns-2 : tie.Need-returns-2
+unfolding totalsVerdict
+returns-2 c =
+    simp (sym (c .before .before .check .ensures) ∙ c .enum-told .given .1)
+
+pub refuse-totals-spec : {M : Type 1} → statement M
+refuse-totals-spec = tie.close (tie.spec check-requires enum-known-r enum-told returns returns-2)

@@ -1,0 +1,93 @@
+/* Chart difficulty for an editing station: five calls on a chart and its two tables.
+ *
+ * Lent by the caller, kept by the caller: no call allocates, keeps a pointer after it has returned, prints, or stops the program.
+ *   chart    the chart in bytes (docs/FORMAT.md); N is its count of objects
+ *   records  the table of records, DIFFICULTY_RECORD numbers an entry: at least 16 * N numbers
+ *   values   the table of values, DIFFICULTY_VALUES numbers an entry: at least 5 * N numbers
+ *   scratch  four slices of at least DIFFICULTY_SCRATCH numbers, for the totals
+ *   out      room for the numbers that a call answers
+ * Entry j of a table belongs to place j, from 1 to N - 1. Entry 0 and entries from N on are never written.
+ *
+ * Every call answers 0 where it is carried out. Else it answers the refusal's number times 2^32 plus its place, and changes nothing:
+ * chart, tables, scratch and out stay as they were. The first of these that is met is answered:
+ *   1 header, length, counts, offsets or reserved bits wrong      5 a start before its predecessor's
+ *   2 a setting outside its range                                 6 the chart is too long in time
+ *   3 an object's own fields wrong                                7 a table, scratch or out is too short
+ *   4 a slider's nested entries or points wrong                   8 no such place
+ * 3, 4 and 5 have the lowest offending place, the others place 0.
+ *
+ * What is assumed of the caller, as of any caller in C: each pointer is not null (also where its length is 0) and is aligned for its type; it
+ * points to as many elements as the length says, all of them readable and initialised; what a call may write overlaps nothing else that it is lent;
+ * no other thread writes what is lent, or reads what may be written, before the call has returned. Nothing is assumed of the
+ * contents or of the lengths. Two threads may call at once on slices of their own.
+ *
+ * Lengths count elements: bytes for chart and object, numbers for all else.
+ */
+#ifndef STATION_H
+#define STATION_H
+
+#include <stddef.h>
+#include <stdint.h>
+
+#ifdef __cplusplus
+extern "C" {
+#endif
+
+enum {
+    DIFFICULTY_OBJECT = 56,    /* bytes of an object in the chart */
+    DIFFICULTY_RECORD = 16,    /* numbers of a record */
+    DIFFICULTY_VALUES = 5,     /* values of a place */
+    DIFFICULTY_TOTALS = 4,     /* totals of a chart */
+    DIFFICULTY_SCRATCH = 8192  /* numbers of scratch for each total */
+};
+
+/* The number (1 to 8) and the place of a refusal; the number of 0 is 0. */
+static inline unsigned difficulty_number(uint64_t answer) { return (unsigned)(answer >> 32); }
+static inline uint32_t difficulty_place(uint64_t answer) { return (uint32_t)answer; }
+
+/* Checks a chart and fills its tables.
+ * Conditions 1 to 7. Writes entries 1 to N - 1 of records and values. */
+uint64_t difficulty_open(const uint8_t *chart, size_t chart_length,
+                         double *records, size_t records_length,
+                         double *values, size_t values_length);
+
+/* Puts an object of DIFFICULTY_OBJECT bytes at a place (0 to N - 1) of the chart, and brings up to date the entries that it can change.
+ * Conditions 1 to 7 for the chart as it is, 8, then 3 to 6 for the chart as it would become; an object of another length is 3 at that place.
+ * Writes the 56 bytes of that object in the chart, records place to place + 2 and values place - 1 to place + 33, as far as they lie in 1 to N - 1.
+ * The tables must be those that difficulty_open filled for this chart, or they hold afterwards what follows from what they held. */
+uint64_t difficulty_replace(uint8_t *chart, size_t chart_length, size_t place,
+                            const uint8_t *object, size_t object_length,
+                            double *records, size_t records_length,
+                            double *values, size_t values_length);
+
+/* Writes the record of a place (1 to N - 1) to the first 16 numbers of out.
+ * Conditions 1, 7, 8; 7 where records has fewer than N entries, or out fewer than 16 numbers. In this order:
+ *   0 start time, 1 delta time, 2 adjusted delta time, 3 lazy jump distance, 4 minimum jump distance, 5 minimum jump time,
+ *   6 travel distance, 7 travel time, 8 and 9 lazy end x and y, 10 lazy travel distance, 11 lazy travel time, 12 angle,
+ *   13 small circle bonus, 14 whether there is a lazy end (1 or 0), 15 whether there is an angle (1 or 0). */
+uint64_t difficulty_read_record(const uint8_t *chart, size_t chart_length,
+                                const double *records, size_t records_length, size_t place,
+                                double *out, size_t out_length);
+
+/* Writes the values of a place (1 to N - 1) to the first 5 numbers of out: aim, aim without sliders, speed, rhythm, flashlight.
+ * Conditions 1, 7, 8; 7 where values has fewer than N entries, or out fewer than 5 numbers. */
+uint64_t difficulty_read_values(const uint8_t *chart, size_t chart_length,
+                                const double *values, size_t values_length, size_t place,
+                                double *out, size_t out_length);
+
+/* Writes the totals over all values to the first 4 numbers of out: aim, aim without sliders, speed, flashlight.
+ * Conditions 1 to 7; 7 where values has fewer than N entries, a slice of scratch fewer than 8,192 numbers, or out fewer than 4.
+ * Carried out, all numbers of the four slices of scratch are 0. */
+uint64_t difficulty_totals(const uint8_t *chart, size_t chart_length,
+                           const double *values, size_t values_length,
+                           double *aim, size_t aim_length,
+                           double *aim_no_sliders, size_t aim_no_sliders_length,
+                           double *speed, size_t speed_length,
+                           double *flashlight, size_t flashlight_length,
+                           double *out, size_t out_length);
+
+#ifdef __cplusplus
+}
+#endif
+
+#endif
