@@ -13,7 +13,7 @@ use Rattle.objects.specs.Search.{firstFrom, firstBelow}
 use Rattle.objects.proofs.Search.{clean}
 use Rattle.objects.specs.Limits.{objectSize}
 use Rattle.calls.specs.Rules.{Rules}
-use Rattle.calls.specs.Conditions.{Met, replace, readRecord, readValue, totals, putObject, firstOf, lowest, found, met, bodyConditions, chartConditions, short, scratchShort, opening, refusal}
+use Rattle.calls.specs.Conditions.{Met, replace, readRecord, readValue, totals, putObject, firstOf, lowest, met, bodyConditions, chartConditions, short, scratchShort, opening, refusal}
 use Rattle.calls.specs.Statement.{Lowest}
 use Rattle.calls.specs.Laws.{Opens}
 

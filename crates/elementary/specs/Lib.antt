@@ -5,4 +5,5 @@ pub mod Signed
 pub mod Significand
 pub mod LogLaws
 pub mod TwoLaws
+pub mod TwoSteps
 pub mod PowerLaws

@@ -4,7 +4,7 @@ use mathlib.Core.Path.{_≡_, refl, sym, ap, _∙_, subst}
 use mathlib.Core.Logic.{_⊎_, ⊎-elim}
 use mathlib.Core.Bool.{Bool, true, false, not, cond, _&&_, true≢false}
 use Prim.Native.Nat.{ℕ, zero, suc, _+_, _-_, _*_, _/_, _%_, _^_, _≤_, _<_}
-use native.Mathlib.Nat.{le-refl, le-trans, le-of-eq, lt-of-lt-of-le, lt-of-le-of-lt, le-of-lt, lt-irrefl, le-of-suc-le-suc, not-suc-le-zero, eq-or-lt-of-le, one-mul, mul-one, mul-assoc, mul-right-comm, mul-le-mul, mul-le-mul-left, mul-le-mul-right, le-of-mul-le-mul-right, div-mul-le-self, le-div-iff-mul-le, mul-div-cancel, zero-mul, zero-div}
+use native.Mathlib.Nat.{le-refl, le-trans, le-of-eq, lt-of-lt-of-le, lt-of-le-of-lt, le-of-lt, lt-irrefl, le-of-suc-le-suc, not-suc-le-zero, eq-or-lt-of-le, one-mul, mul-one, mul-assoc, mul-right-comm, mul-le-mul, mul-le-mul-left, mul-le-mul-right, le-of-mul-le-mul-right, div-mul-le-self, le-div-iff-mul-le, zero-mul, zero-div}
 use native.Mathlib.Omega.{arith}
 use lib.Dec.{T, leb, ltb, eqb, leb→le, ltb→lt, nltb→le, lit<, lit≤}
 use lib.Pow.{pow-add, pow-pos, pow-mono, pow-lt}
@@ -87,12 +87,6 @@ p-set p t u h r =
 p-grows : (p u : ℕ) → 2 ^ 62 < u → p ≤ p * u / 2 ^ 62
 p-grows p u h = le-div-iff-mul-le (pow-pos 62) .1 (mul-le-mul-left p (le-of-lt h))
 
--- one step of the loop
-pub two-step : (k f p : ℕ) → 0 < k → twoBits k f p ≡ twoBits (k - 1) f (twoStep f (k - 1) p)
-unfolding twoBits
-two-step zero f p h = absurd (lt-irrefl 0 h)
-two-step (suc k) f p h = let e : k ≡ suc k - 1 = omega arith in ap (λ (x : ℕ). twoBits x f (twoStep f x p)) e
-
 -- ---- one turn of the loop, with l bits left: T(40 - l) stands before it, and T(41 - l) at it
 
 module _ (l : ℕ) (some : 0 < l) (few : l ≤ 40) where
@@ -105,7 +99,7 @@ module _ (l : ℕ) (some : 0 < l) (few : l ≤ 40) where
   turn-more : 2 ^ 62 < twoRoot (40 - (l - 1))
   turn-more = root-entry (40 - (l - 1)) (omega arith) .more
 
-  turn-small : twoRoot (40 - (l - 1)) < 2 ^ 63
+  pub turn-small : twoRoot (40 - (l - 1)) < 2 ^ 63
   turn-small =
       let u = twoRoot (40 - (l - 1)) in
       p-below u u turn-more (le-trans (rule .0) (mul-le-mul-right (2 ^ 62) (root-entry (40 - l) (omega arith) .most)))
@@ -113,7 +107,7 @@ module _ (l : ℕ) (some : 0 < l) (few : l ≤ 40) where
   pub turn-p : (p : ℕ) → p * twoRoot (40 - l) ≤ 2 ^ 125 → p < 2 ^ 63
   turn-p p h = p-below p (twoRoot (40 - l)) (root-entry (40 - l) (omega arith) .more) h
 
-  turn-set : (p : ℕ) → p * twoRoot (40 - l) ≤ 2 ^ 125 → p * twoRoot (40 - (l - 1)) / 2 ^ 62 * twoRoot (40 - (l - 1)) ≤ 2 ^ 125
+  pub turn-set : (p : ℕ) → p * twoRoot (40 - l) ≤ 2 ^ 125 → p * twoRoot (40 - (l - 1)) / 2 ^ 62 * twoRoot (40 - (l - 1)) ≤ 2 ^ 125
   turn-set p h = p-set p (twoRoot (40 - l)) (twoRoot (40 - (l - 1))) h (rule .0)
 
   turn-clear : (p : ℕ) → p * twoRoot (40 - l) ≤ 2 ^ 125 → p * twoRoot (40 - (l - 1)) ≤ 2 ^ 125
@@ -121,31 +115,12 @@ module _ (l : ℕ) (some : 0 < l) (few : l ≤ 40) where
       le-trans (mul-le-mul-left p (subst (λ (j : ℕ). twoRoot j ≤ twoRoot (40 - l)) here (root-entry (40 - l) (omega arith) .next))) h
 
   -- a turn with either bit
-  pub turn-factor : (b : Bool) → cond b (twoRoot (40 - (l - 1))) (2 ^ 62) < 2 ^ 63
-  turn-factor true = turn-small
-  turn-factor false = lit< tt
-
-  pub turn-grows : (b : Bool) (p : ℕ) → 2 ^ 62 ≤ p → 2 ^ 62 ≤ cond b (p * twoRoot (40 - (l - 1)) / 2 ^ 62) p
-  turn-grows true p h = le-trans h (p-grows p (twoRoot (40 - (l - 1))) turn-more)
-  turn-grows false p h = h
-
-  pub turn-bound : (b : Bool) (p : ℕ) → p * twoRoot (40 - l) ≤ 2 ^ 125 → cond b (p * twoRoot (40 - (l - 1)) / 2 ^ 62) p * twoRoot (40 - (l - 1)) ≤ 2 ^ 125
+  turn-bound : (b : Bool) (p : ℕ) → p * twoRoot (40 - l) ≤ 2 ^ 125 → cond b (p * twoRoot (40 - (l - 1)) / 2 ^ 62) p * twoRoot (40 - (l - 1)) ≤ 2 ^ 125
   turn-bound true p h = turn-set p h
   turn-bound false p h = turn-clear p h
 
--- multiplying by the factor is the step
-pub step-factor : (b : Bool) (p t : ℕ) → p * cond b t (2 ^ 62) / 2 ^ 62 ≡ cond b (p * t / 2 ^ 62) p
-step-factor true p t = refl
-step-factor false p t = mul-div-cancel p (pow-pos 62)
-
--- the factor without a branch
-pub factor-of : (bit t : ℕ) → bit < 2 → 2 ^ 62 < t → 2 ^ 62 + bit * (t - 2 ^ 62) ≡ cond (eqb bit 1) t (2 ^ 62)
-factor-of zero t h g = omega arith
-factor-of (suc zero) t h g = omega arith
-factor-of (suc (suc k)) t h g = absurd (no k h)
-  where
-    no : (k : ℕ) → suc (suc k) < 2 → ⊥
-    no k h = omega arith
+  pub turn-grows : (p : ℕ) → 2 ^ 62 ≤ p → 2 ^ 62 ≤ p * twoRoot (40 - (l - 1)) / 2 ^ 62
+  turn-grows p h = le-trans h (p-grows p (twoRoot (40 - (l - 1))) turn-more)
 
 -- ---- P is below 2 ^ 63, whatever the bits
 two-range : (k f p : ℕ) → k ≤ 40 → p * twoRoot (40 - k) ≤ 2 ^ 125 → twoBits k f p < 2 ^ 63

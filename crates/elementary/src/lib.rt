@@ -1,8 +1,8 @@
 // Log, Two, Power, exp and log10 over whole numbers (document 01, "Positions, paths, numbers").
 ghost use mathlib.Core.Path.{_≡_};
-ghost use mathlib.Core.Bool.{true, false, not, cond};
+ghost use mathlib.Core.Bool.{true, false, not};
 ghost use Prim.Native.Nat.{_*_, _/_, _^_, _≤_, _<_};
-ghost use lib.Dec.{T, eqb};
+ghost use lib.Dec.{T};
 ghost use lib.IntN.{pos, negsuc};
 ghost use lib.Signed.{ltZ, leZ};
 ghost use lib.Ieee as Ieee;
@@ -47,13 +47,24 @@ fn log_bits(m: u64) -> u64
     bits
 }
 
+// The same at once for a power of two, whose M of 2^62 stays as it is: Power's bases are often 1.
+fn log_fraction(m: u64) -> u64
+    requires { ⌜ m < 2 ^ 63 ⌝ }
+    ensures { λ r. ⌜ (r ≡ logBits 40 m 0) × (r < 2 ^ 40) ⌝ }
+{
+    if m == 0x4000_0000_0000_0000 {
+        return 0;
+    }
+    log_bits(m)
+}
+
 // L of m * 2^(k - 1074), a number above zero by its significand and its place.
 fn log_scaled(m: u64, k: u64) -> i64
     requires { ⌜ (0 < m) × (m < 2 ^ 53) × (k < 2046) ⌝ }
     ensures { λ r. ⌜ r ≡ logOf (odd 53 false m k 1074) ⌝ }
 {
     let zeros = u64::leading_zeros(m) as u64;
-    let fraction = log_bits(m << (zeros - 1));
+    let fraction = log_fraction(m << (zeros - 1));
     let q: i64 = (k + (64 - zeros)) as i64 - 1075;
     q * 0x100_0000_0000 + fraction as i64
 }
@@ -117,24 +128,17 @@ fn two_root(j: usize) -> u64
     }
 }
 
-// T(j) where the bit is 1, 2^62 where it is 0.
-fn two_factor(j: usize, bit: u64) -> u64
-    requires { ⌜ (0 < j) × (j < 41) × (bit < 2) ⌝ }
-    ensures { λ r. ⌜ r ≡ cond (eqb bit 1) (twoRoot j) (2 ^ 62) ⌝ }
-{
-    0x4000_0000_0000_0000 + bit * (two_root(j) - 0x4000_0000_0000_0000)
-}
-
-// P of Two for the fraction f / 2^40: 2^62 times the roots T(j) at whose place f has a bit. A step without a
-// bit multiplies by 2^62, so that no branch depends on f.
+// P of Two for the fraction f / 2^40: 2^62 times the roots T(j) at whose place f has a bit. Only the bits that are set take a
+// turn: where they stand does not wait for P, and no branch but the last depends on them.
 fn two_bits(f: u64) -> u64
     ensures { λ r. ⌜ (r ≡ twoBits 40 f (2 ^ 62)) × (2 ^ 62 ≤ r) × (r < 2 ^ 63) ⌝ }
 {
     let mut p: u64 = 0x4000_0000_0000_0000;
-    let mut left: usize = 40;
-    while 0 < left {
-        left -= 1;
-        p = mul_shift62(p, two_factor(40 - left, (f >> left) % 2));
+    let mut rest = f % 0x100_0000_0000;
+    while 0 < rest {
+        let k = (63 - u64::leading_zeros(rest)) as usize;
+        p = mul_shift62(p, two_root(40 - k));
+        rest -= 1 << k;
     }
     p
 }

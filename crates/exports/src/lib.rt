@@ -1,5 +1,4 @@
 // The functions on numbers, the evaluators and the check of a chart under C names, for the benchmarks.
-ghost use mathlib.Core.Path.{_≡_};
 ghost use Prim.Native.Nat.{_*_, _≤_, _<_};
 ghost use lib.ListN.{length};
 ghost use Rattle.osu_object.specs.Osu.{Ready};

@@ -51,14 +51,14 @@ module _ (x f : ℕ) (hx : x < 2110) (hf : f < 2 ^ 40) where
 cast-zeros : tie.Need-cast-zeros
 cast-zeros c = omega (arith, digits (c .args .m) (c .pre .0) (c .pre .1))
 
-sub-log-bits : tie.Need-sub-log-bits
-sub-log-bits c = omega (arith, digits (c .args .m) (c .pre .0) (c .pre .1), most (c .args .m) (c .pre .0) (c .pre .1))
+sub-log-fraction : tie.Need-sub-log-fraction
+sub-log-fraction c = omega (arith, digits (c .args .m) (c .pre .0) (c .pre .1), most (c .args .m) (c .pre .0) (c .pre .1))
 
-shl-log-bits : tie.Need-shl-log-bits
-shl-log-bits c = omega (arith, digits (c .args .m) (c .pre .0) (c .pre .1))
+shl-log-fraction : tie.Need-shl-log-fraction
+shl-log-fraction c = omega (arith, digits (c .args .m) (c .pre .0) (c .pre .1))
 
-log-bits-requires : tie.Need-log-bits-requires
-log-bits-requires c κs =
+log-fraction-requires : tie.Need-log-fraction-requires
+log-fraction-requires c κs =
     let m = c .args .m in
     subst (λ (n : ℕ). n < 2 ^ 63) (sym (shifted m (c .pre .0) (c .pre .1))) (placed-lt m (omega (arith, most m (c .pre .0) (c .pre .1))))
 
@@ -74,12 +74,12 @@ cast-q c = search needs
 sub-q-2 : tie.Need-sub-q-2
 sub-q-2 c =
     let x = c .before .args .k + (64 - leadingZeros 64 (c .before .args .m)) in
-    i64-fits x 1075 (q x (c .log-bits .result) (omega arith) (c .log-bits .ensures .1)) (omega arith) (omega arith)
+    i64-fits x 1075 (q x (c .log-fraction .result) (omega arith) (c .log-fraction .ensures .1)) (omega arith) (omega arith)
 
 mul-result : tie.Need-mul-result
 mul-result c =
     let x = c .before .args .k + (64 - leadingZeros 64 (c .before .args .m)) in
-    i64-fits (x * 2 ^ 40) (1075 * 2 ^ 40) (scaled x (c .log-bits .result) (omega arith) (c .log-bits .ensures .1)) (omega arith) (omega arith)
+    i64-fits (x * 2 ^ 40) (1075 * 2 ^ 40) (scaled x (c .log-fraction .result) (omega arith) (c .log-fraction .ensures .1)) (omega arith) (omega arith)
 
 cast-result : tie.Need-cast-result
 cast-result c = search needs
@@ -87,8 +87,8 @@ cast-result c = search needs
 add-result : tie.Need-add-result
 add-result c =
     let x = c .before .args .k + (64 - leadingZeros 64 (c .before .args .m)) in
-    let f = c .log-bits .result in
-    let hf : f < 2 ^ 40 = c .log-bits .ensures .1 in
+    let f = c .log-fraction .result in
+    let hf : f < 2 ^ 40 = c .log-fraction .ensures .1 in
     i64-fits (x * 2 ^ 40 + f) (1075 * 2 ^ 40 + 0) (sum x f (omega arith) hf) (omega arith) (omega arith)
 
 returns : tie.Need-returns
@@ -98,10 +98,10 @@ returns c =
     let p = c .before .pre .0 in
     let h = c .before .pre .1 in
     let x = k + (64 - leadingZeros 64 m) in
-    let f = c .log-bits .result in
-    let hf : f < 2 ^ 40 = c .log-bits .ensures .1 in
+    let f = c .log-fraction .result in
+    let hf : f < 2 ^ 40 = c .log-fraction .ensures .1 in
     let ex : x ≡ k + size m = omega (arith, digits m p h) in
-    let ef : f ≡ logBits 40 (m * 2 ^ (63 - size m)) 0 = c .log-bits .ensures .0 ∙ ap (λ (n : ℕ). logBits 40 n 0) (shifted m p h) in
+    let ef : f ≡ logBits 40 (m * 2 ^ (63 - size m)) 0 = c .log-fraction .ensures .0 ∙ ap (λ (n : ℕ). logBits 40 n 0) (shifted m p h) in
     i64-back (x * 2 ^ 40 + f) (1075 * 2 ^ 40 + 0) (sum x f (omega arith) hf) (omega arith) (omega arith)
     ∙ ap₂ (λ (a b : ℕ). diff (a * 2 ^ 40 + b) (1075 * 2 ^ 40)) ex ef
     ∙ sym (log-odd m k p h)
@@ -109,4 +109,4 @@ returns c =
 pub log-scaled-spec : {M : Type 1} → statement M
 log-scaled-spec =
     tie.close
-    (tie.spec cast-zeros sub-log-bits shl-log-bits log-bits-requires sub-q add-q cast-q sub-q-2 mul-result cast-result add-result returns)
+    (tie.spec cast-zeros sub-log-fraction shl-log-fraction log-fraction-requires sub-q add-q cast-q sub-q-2 mul-result cast-result add-result returns)
