@@ -10,12 +10,8 @@ TOOLS is the folder of the oracle's scripts (mkcharts.py, mkscripts.py), BUILD t
 lists: PROGRAM reads from standard input for each chart its length (u32, little-endian) and its bytes, and prints the lister's lines for each, one
 after another. The charts are of all styles in turn, to 32,768 bytes; every eighth is damaged, though some of these open. Zeros of either sign are equal.
 
-scripts: PROGRAM reads for each script the chart's length and bytes, the number of calls (u32), and for each call nine words (u32) and the object:
-kind (0 open, 1 replace, 2 record, 3 value, 4 totals, 5 chart), the lengths of the tables of records and of values in entries, four lengths of
-scratch in numbers, the length of the object, 0, the place (u64), the object's bytes. It prints a line for each call: `opened`, `accepted`,
-`refused N PLACE`, `record PLACE` and the sixteen fields, `value PLACE` and the five values, `totals` and the four, or `chart`, the chart's length
-and the FNV-1a 64 of its bytes, with which every script ends. The charts open, and their scripts are lists of calls with no other hand on the chart.
-Floats are compared by their bits.
+scripts: PROGRAM is `replay`, or reads and writes as it does (crates/replay/src/main.rt); tools/scripts.py packs the calls. The charts open, and their
+scripts are lists of calls with no other hand on the chart. Tables hold numbers of other origin beforehand. Floats are compared by their bits.
 
 The last line is `N equal, M different`; the status is 0 if M is 0 and N isn't.
 """
@@ -31,9 +27,8 @@ import sys
 import tempfile
 
 sys.dont_write_bytecode = True
+from scripts import KEPT, packed_script, patterns
 
-CALLS = ("open", "replace", "record", "value", "totals", "chart")
-CALL = struct.Struct("<9IQ")
 BATCH = 500
 
 
@@ -95,23 +90,6 @@ def packed_chart(b):
     return struct.pack("<I", len(b)) + b
 
 
-def packed_call(line):
-    w = line.split()
-    records = values = place = 0
-    scratch, o = [0] * 4, b""
-    if w[0] == "open":
-        records, values = map(int, w[1:])
-    elif w[0] == "replace":
-        place, o, records, values = int(w[1]), bytes.fromhex(w[2].replace("-", "")), int(w[3]), int(w[4])
-    elif w[0] == "record":
-        place, records = map(int, w[1:])
-    elif w[0] == "value":
-        place, values = map(int, w[1:])
-    elif w[0] == "totals":
-        values, scratch = int(w[1]), list(map(int, w[3:]))
-    return CALL.pack(CALLS.index(w[0]), records, values, *scratch, len(o), 0, place) + o
-
-
 def lists(a, oracle):
     """Batches of charts: names, the program's input, and the answers that it must give."""
     import mkcharts as mk
@@ -121,15 +99,22 @@ def lists(a, oracle):
         yield [name for name, _ in made], b"".join(map(packed_chart, charts)), oracle.answers(["list"], charts)
 
 
+def script_of(mkscripts, a, i, chart):
+    """The calls on the i-th chart, and the script's bytes."""
+    rng = random.Random(f"tables/{a.seed}/{i}")
+    calls = mkscripts.script(chart, a.seed, a.calls, pure=True)[0]
+    return calls, packed_script(rng, chart, rng.choice(list(patterns(rng))), calls)
+
+
 def scripts(a, oracle):
     import mkcharts as mk
     import mkscripts
     for first in range(0, a.count, BATCH):
-        made = [style_chart(mk, a.seed, i) for i in range(first, min(first + BATCH, a.count))]
-        calls = [mkscripts.script(b, a.seed, a.calls, pure=True)[0] + ["chart"] for _, b in made]
-        data = b"".join(packed_chart(b) + struct.pack("<I", len(c)) + b"".join(map(packed_call, c)) for (_, b), c in zip(made, calls))
-        # the oracle ends every script with a line of `chart` itself
-        yield [name for name, _ in made], data, oracle.answers(["script"], [b for _, b in made], [c[:-1] for c in calls])
+        numbers = range(first, min(first + BATCH, a.count))
+        made = [style_chart(mk, a.seed, i) for i in numbers]
+        played = [script_of(mkscripts, a, i, b) for i, (_, b) in zip(numbers, made)]
+        want = oracle.answers(["script"], [b for _, b in made], [calls for calls, _ in played])
+        yield [name for name, _ in made], b"".join(data for _, data in played), [answer + KEPT + "\n" for answer in want]
 
 
 def cut(mode, text, want):

@@ -25,6 +25,7 @@ import foreign
 from foreign import Real
 
 ENTRIES = 1024
+KEPT = "entries kept"  # the last line of every script
 KINDS = {"open": 0, "replace": 1, "record": 2, "value": 3, "totals": 4, "poke": 5, "chart": 6}
 
 
@@ -134,6 +135,11 @@ def packed(r, line):
     return out
 
 
+def packed_script(r, chart, pattern, lines):
+    """A script as the program reads it."""
+    return struct.pack(f"<I{len(chart)}s80dI", len(chart), chart, *pattern, len(lines)) + b"".join(packed(r, line) for line in lines)
+
+
 def answered(model, line, answer):
     """The answer to a call, worked out anew where the oracle leaves it open."""
     name, *w = line.split()
@@ -162,8 +168,7 @@ def play(second, oracle, name, lines, unopened, pattern, r):
     model = Model(second, chart, pattern)
     open_ones = sum(a == "carried-out" for a in told)
     wanted = [answered(model, line, answer) for line, answer in zip(lines, told)]
-    data = struct.pack("<I", len(chart)) + chart + struct.pack("<80d", *pattern) + struct.pack("<I", len(lines)) + b"".join(packed(r, line) for line in lines)
-    return data, wanted + [told[-1], "entries kept"], open_ones
+    return packed_script(r, chart, pattern, lines), wanted + [told[-1], KEPT], open_ones
 
 
 def main():

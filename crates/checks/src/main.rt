@@ -2,53 +2,35 @@
 // `opened`, or `refused` with the number of the condition and the place. The tables count as long enough.
 use opening::Verdict;
 
+// Charts that are read at most.
+const MOST: usize = 65536;
+
 // The answer for one chart, on a line.
-fn answer(chart: &[u8]) {
+fn answer(out: &mut [u8], chart: &[u8]) {
     match opening::check(chart, 16_384) {
         Verdict::Accepted => {
             io::write_all(1, b"opened\n");
         }
-        Verdict::Refused(r) => {
-            io::write_all(1, b"refused ");
-            io::print_decimal(1, r.number() as u64);
-            io::write_all(1, b" ");
-            io::print_decimal(1, r.place() as u64);
-            io::write_all(1, b"\n");
-        }
+        Verdict::Refused(r) => lines::show_refusal(out, r),
     }
 }
 
-// Reads a chart's length; 65,536, which no chart of a pack has, where the input ends.
-fn next_length() -> usize {
-    let mut word = [0; 4];
-    let n = io::read_full(0, &mut word);
-    if n < 4 {
-        return 65_536;
-    }
-    floats::count_at(&word, 0)
-}
-
-// Reads a chart of this length and answers for it; false where it is too long for the buffer or the input ends within it.
-fn answer_next(length: usize) -> bool {
-    let mut chart = io::large_buffer();
-    if 65_536 <= length {
-        return false;
-    }
-    let n = io::read_full(0, &mut chart[..length]);
-    if n < length {
-        return false;
-    }
-    answer(&chart[..length]);
-    true
-}
-
-// At most 65,536 charts.
-fn main() {
-    let mut left: usize = 65_536;
+// Charts to the end of the input.
+fn run(out: &mut [u8], chart: &mut [u8]) {
+    let mut left = MOST;
     while 0 < left {
-        if !answer_next(next_length()) {
-            return;
+        let n = packs::read_chart(chart);
+        if n <= chart.len() {
+            answer(out, &chart[0..n]);
+            left -= 1;
+        } else {
+            left = 0;
         }
-        left -= 1;
     }
+}
+
+fn main() {
+    let mut out = io::buffer();
+    let mut chart = io::large_buffer();
+    run(&mut out[..], &mut chart[..]);
 }

@@ -1,14 +1,9 @@
--- What an accepted reading tells, and a row of the value table. Assumes nothing.
-use Prim.Native.Nat.{ℕ, suc, _+_, _*_, _≤_, _<_}
-use mathlib.Core.Path.{_≡_, refl, sym, ap, _∙_}
+-- What an accepted reading tells. Assumes nothing.
+use Prim.Native.Nat.{ℕ, _≤_, _<_}
+use mathlib.Core.Path.{_≡_, refl}
 use mathlib.Core.Bool.{Bool, true, false, cond, _&&_}
-use mathlib.Core.List.{List, [], _∷_}
+use mathlib.Core.List.{List}
 use lib.Dec.{ltb}
-use lib.Ieee.{Float, nan}
-use lib.ListN.{length, getD, drop}
-use lib.Seq.{drop-cons}
-use Rattle.tables.specs.Parts.{row, part}
-use native.Mathlib.Omega.{arith}
 use borrow.Author.Tests.{ltb-true, ltb-false}
 use Rattle.objects.specs.Limits.{mostObjects}
 use Rattle.opening.specs.Header.{layoutOf, headerOk}
@@ -40,20 +35,3 @@ read b entries k e =
       room = ltb-false entries (layoutOf b .n) (t .0);
       below = ltb-true k (layoutOf b .n) (both (ltb 0 k) _ (p .0) .1);
     }
-
--- a row of five, number by number
-module _ (l : List Float) where
-  head : (i j : ℕ) → j ≡ suc i → i < length l → drop i l ≡ getD l i nan ∷ drop j l
-  head i j e h = drop-cons l i nan h ∙ ap (λ (k : ℕ). getD l i nan ∷ drop k l) (sym e)
-
-  pub row-five : (k : ℕ) → 5 * k + 5 ≤ length l
-      → row 5 l k ≡ getD l (5 * k) nan ∷ getD l (5 * k + 1) nan ∷ getD l (5 * k + 2) nan ∷ getD l (5 * k + 3) nan ∷ getD l (5 * k + 4) nan ∷ []
-  unfolding row part
-  row-five k h =
-      rw (
-        head (5 * k) (5 * k + 1) (omega arith) (omega arith),
-        head (5 * k + 1) (5 * k + 2) (omega arith) (omega arith),
-        head (5 * k + 2) (5 * k + 3) (omega arith) (omega arith),
-        head (5 * k + 3) (5 * k + 4) (omega arith) (omega arith),
-        head (5 * k + 4) (5 * k + 5) (omega arith) (omega arith),
-      )

@@ -176,28 +176,13 @@ pub fn read_record(chart: &[u8], records: &[f64], place: usize) -> RecordAnswer
     }
 }
 
-// A row of the value table.
-fn row_at(values: &[f64], place: usize) -> Values
-    requires { ⌜ (place < 65536) × (5 * place + 5 ≤ length (now values)) ⌝ }
-    ensures { λ r. ⌜ rowOf r ≡ row 5 (now (values .entry)) place ⌝ }
-{
-    let at = 5 * place;
-    Values {
-        aim: values[at],
-        aim_no_sliders: values[at + 1],
-        speed: values[at + 2],
-        rhythm: values[at + 3],
-        flashlight: values[at + 4],
-    }
-}
-
 // The values of a place, as the table has them.
 pub fn read_values(chart: &[u8], values: &[f64], place: usize) -> ValuesAnswer
     ensures { λ r. ⌜ valuesAnswer r ≡ outcome rules (conditions.readValue place) (now (chart .entry)) [] (now (values .entry)) .answer ⌝ }
 {
     match check_reading(chart, values.len() / 5, place) {
         Verdict::Refused(r) => ValuesAnswer::Refused(r),
-        Verdict::Accepted => ValuesAnswer::Values(row_at(values, place)),
+        Verdict::Accepted => ValuesAnswer::Values(evaluators::row_at(values, place)),
     }
 }
 

@@ -2,7 +2,7 @@
 ghost use mathlib.Core.Path.{_≡_};
 ghost use Prim.Native.Nat.{_+_, _-_, _*_, _≤_, _<_};
 ghost use lib.ListN.{length};
-ghost use Rattle.tables.specs.Parts.{put, fill};
+ghost use Rattle.tables.specs.Parts.{row, put, fill};
 ghost use Rattle.osu_object.specs.Osu.{Ready};
 ghost use Rattle.evaluators.specs.Values.{rowOf, valuesIn};
 use objects::Layout;
@@ -29,6 +29,21 @@ pub fn values_at(t: &[f64], chart: &[u8], lay: Layout, set: Settings, j: usize) 
         speed: speed::evaluate_place(t, chart, lay, j, set.hit_window, set.autopilot),
         rhythm: rhythm::evaluate_place(t, chart, lay, j, set.hit_window),
         flashlight: light.evaluate_place(t, chart, lay, n, j, set.hidden),
+    }
+}
+
+// Reads one row of the value table.
+pub fn row_at(values: &[f64], j: usize) -> Values
+    requires { ⌜ 5 * j + 5 ≤ length (now values) ⌝ }
+    ensures { λ r. ⌜ rowOf r ≡ row 5 (now (values .entry)) j ⌝ }
+{
+    let at = 5 * j;
+    Values {
+        aim: values[at],
+        aim_no_sliders: values[at + 1],
+        speed: values[at + 2],
+        rhythm: values[at + 3],
+        flashlight: values[at + 4],
     }
 }
 

@@ -90,13 +90,6 @@ fn answers(s: &[u8], n: usize, out: &mut [u8]) -> usize
     end
 }
 
-// Writes the first n bytes of out.
-fn show(out: &[u8], n: usize) {
-    if n <= out.len() {
-        io::write_all(1, &out[0..n]);
-    }
-}
-
 // All vectors of standard input, as many at a time as s holds.
 fn run(s: &mut [u8], out: &mut [u8]) {
     let mut left: usize = 64;
@@ -104,7 +97,7 @@ fn run(s: &mut [u8], out: &mut [u8]) {
         let got = io::read_full(0, s);
         let n = got / SIZE;
         let end = answers(s, n, out);
-        show(out, end);
+        text::show(out, end);
         if got < s.len() {
             return;
         }

@@ -97,18 +97,23 @@ pub fn put_record(out: &mut [u8], at: usize, j: usize, r: OsuDifficultyObject) -
     text::put(out, small, b'\n')
 }
 
-// Writes the first n bytes of the buffer.
-pub fn show(out: &[u8], n: usize) {
-    if n <= out.len() {
-        io::write_all(1, &out[0..n]);
-    }
+// The line of a refusal, written.
+pub fn show_refusal(out: &mut [u8], r: Refusal) {
+    let end = put_refusal(out, 0, r);
+    text::show(out, end);
 }
 
-// Writes them once half of the buffer is full; the offset at which the next line begins.
-pub fn show_if_full(out: &[u8], n: usize) -> usize {
-    if n <= out.len() / 2 {
-        return n;
+// The number of objects and the values of a table that has them, written.
+pub fn show_values(out: &mut [u8], values: &[f64], n: usize) {
+    if values.len() / 5 < n {
+        return;
     }
-    show(out, n);
-    0
+    let mut end = put_count(out, 0, n);
+    let mut j = 1;
+    while j < n {
+        end = text::show_if_full(out, end);
+        end = put_values(out, end, j, evaluators::row_at(values, j));
+        j += 1;
+    }
+    text::show(out, end);
 }

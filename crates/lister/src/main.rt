@@ -45,12 +45,11 @@ fn list(
 ) {
     let n = io::read_full(0, chart);
     if listing::LIMIT < n {
-        let end = lines::put_refusal(out, 0, Refusal::Table);
-        lines::show(out, end);
+        lines::show_refusal(out, Refusal::Table);
         return;
     }
     if n <= chart.len() {
         let end = listing::put_chart(out, &chart[0..n], records, values, a, b, c, d);
-        lines::show(out, end);
+        text::show(out, end);
     }
 }

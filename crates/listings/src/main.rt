@@ -19,7 +19,7 @@ fn run(
         let n = packs::read_chart(chart);
         if n <= chart.len() {
             let end = listing::put_chart(out, &chart[0..n], records, values, a, b, c, d);
-            lines::show(out, end);
+            text::show(out, end);
             left -= 1;
         } else {
             left = 0;

@@ -11,6 +11,14 @@ pub fn next_word() -> usize {
     floats::count_at(&word[..], 0)
 }
 
+// The next u32, at most this.
+pub fn next_length(most: usize) -> usize
+    ensures { λ r. ⌜ r ≤ most ⌝ }
+{
+    let n = next_word();
+    if most < n { most } else { n }
+}
+
 // The next u64; 0 where the input ends.
 pub fn next_long() -> u64 {
     let mut word = [0u8; 8];

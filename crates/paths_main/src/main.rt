@@ -41,9 +41,7 @@ fn show(p: Pos) {
     end = text::put(&mut line[..], end, b' ');
     end = text::put_f32(&mut line[..], end, p.y);
     end = text::put(&mut line[..], end, b'\n');
-    if end <= line.len() {
-        io::write_all(1, &line[0..end]);
-    }
+    text::show(&line[..], end);
 }
 
 // Reads a lookup and answers it; false at the end of the input.

@@ -4,58 +4,27 @@
 ghost use Prim.Native.Nat.{_<_};
 use opening::Verdict;
 
-fn put_verdict(line: &mut [u8], v: Verdict) -> usize {
+// Charts that are read at most, and calls on each.
+const MOST: usize = 65536;
+
+fn put_verdict(out: &mut [u8], v: Verdict) -> usize {
     match v {
-        Verdict::Accepted => text::put_all(line, 0, b"accepted\n"),
-        Verdict::Refused(r) => {
-            let word = text::put_all(line, 0, b"refused ");
-            let number = text::put_decimal(line, word, r.number() as u64);
-            let space = text::put(line, number, b' ');
-            let place = text::put_decimal(line, space, r.place() as u64);
-            text::put(line, place, b'\n')
-        }
+        Verdict::Accepted => text::put_all(out, 0, b"accepted\n"),
+        Verdict::Refused(r) => lines::put_refusal(out, 0, r),
     }
-}
-
-fn show(line: &[u8], n: usize) {
-    if n <= line.len() {
-        io::write_all(1, &line[0..n]);
-    }
-}
-
-// The next u32 of standard input, 65,536 where it ends.
-fn next_word() -> usize {
-    let mut word = [0; 4];
-    let n = io::read_full(0, &mut word);
-    if n < 4 {
-        return 65_536;
-    }
-    floats::count_at(&word, 0)
-}
-
-fn next_place() -> u64 {
-    let mut word = [0; 8];
-    io::read_full(0, &mut word);
-    floats::u64_at(&word, 0)
 }
 
 // One call.
-fn call(chart: &mut [u8]) {
-    let place = next_place();
-    let entries = next_word();
-    let length = next_word();
-    let mut object = io::buffer();
-    if 4096 <= length {
+fn call(out: &mut [u8], chart: &mut [u8], object: &mut [u8]) {
+    let place = packs::next_long() as usize;
+    let entries = packs::next_word();
+    let n = packs::read_chart(object);
+    if object.len() < n {
         return;
     }
-    let n = io::read_full(0, &mut object[..length]);
-    if n < length {
-        return;
-    }
-    let verdict = replacing::replace(chart, place as usize, &object[..length], entries);
-    let mut line = io::buffer();
-    let end = put_verdict(&mut line, verdict);
-    show(&line, end);
+    let verdict = replacing::replace(chart, place, &object[0..n], entries);
+    let end = put_verdict(out, verdict);
+    text::show(out, end);
 }
 
 fn wide(x: u8) -> u32
@@ -77,45 +46,40 @@ fn checksum(s: &[u8]) -> u32 {
     b % 65521 * 0x1_0000 + a % 65521
 }
 
-fn show_checksum(chart: &[u8]) {
-    let mut line = io::buffer();
-    let word = text::put_all(&mut line, 0, b"chart ");
-    let end = text::put_hex32(&mut line, word, checksum(chart));
-    let stop = text::put(&mut line, end, b'\n');
-    show(&line, stop);
+fn show_checksum(out: &mut [u8], chart: &[u8]) {
+    let word = text::put_all(out, 0, b"chart ");
+    let end = text::put_hex32(out, word, checksum(chart));
+    let stop = text::put(out, end, b'\n');
+    text::show(out, stop);
 }
 
 // All calls on a chart.
-fn calls(chart: &mut [u8], n: usize) {
-    let mut left = n;
+fn calls(out: &mut [u8], chart: &mut [u8], object: &mut [u8]) {
+    let mut left = packs::next_length(MOST);
     while 0 < left {
-        call(chart);
+        call(out, chart, object);
         left -= 1;
     }
-    show_checksum(chart);
+    show_checksum(out, chart);
 }
 
-// One chart with its calls; false where the input ends.
-fn answer_next(length: usize) -> bool {
-    let mut chart = io::large_buffer();
-    if 65_536 <= length {
-        return false;
-    }
-    let n = io::read_full(0, &mut chart[..length]);
-    if n < length {
-        return false;
-    }
-    calls(&mut chart[..length], next_word());
-    true
-}
-
-// At most 65,536 charts.
-fn main() {
-    let mut left: usize = 65_536;
+// Charts to the end of the input.
+fn run(out: &mut [u8], chart: &mut [u8], object: &mut [u8]) {
+    let mut left = MOST;
     while 0 < left {
-        if !answer_next(next_word()) {
-            return;
+        let n = packs::read_chart(chart);
+        if n <= chart.len() {
+            calls(out, &mut chart[0..n], object);
+            left -= 1;
+        } else {
+            left = 0;
         }
-        left -= 1;
     }
+}
+
+fn main() {
+    let mut out = io::buffer();
+    let mut chart = io::large_buffer();
+    let mut object = io::buffer();
+    run(&mut out[..], &mut chart[..], &mut object[..]);
 }

@@ -61,33 +61,34 @@ fn hash_all(chart: &[u8], records: &[f64], values: &[f64]) -> u64 {
     hash_table(hash_table(hash(chart), records), values)
 }
 
-// A line where two hashes differ.
-fn put_change(out: &mut [u8], at: usize, before: u64, after: u64) -> usize {
-    if before == after {
-        return at;
+// The line of an opening or a replacement: a word, or the refusal, and where it changed anything a line that says so.
+fn put_verdict(
+    out: &mut [u8],
+    at: usize,
+    v: Verdict,
+    word: &[u8],
+    before: u64,
+    after: u64,
+) -> usize {
+    match v {
+        Verdict::Accepted => text::put_all(out, at, word),
+        Verdict::Refused(r) => {
+            let end = lines::put_refusal(out, at, r);
+            if before == after {
+                return end;
+            }
+            text::put_all(out, end, b"changed by a refused call\n")
+        }
     }
-    text::put_all(out, at, b"changed by a refused call\n")
-}
-
-// The next u32, at most this.
-fn next_length(most: usize) -> usize
-    ensures { λ r. ⌜ r ≤ most ⌝ }
-{
-    let n = packs::next_word();
-    if most < n { most } else { n }
 }
 
 fn open(out: &mut [u8], at: usize, chart: &[u8], records: &mut [f64], values: &mut [f64]) -> usize {
-    let r = next_length(records.len());
-    let v = next_length(values.len());
+    let r = packs::next_length(records.len());
+    let v = packs::next_length(values.len());
     let before = hash_all(chart, records, values);
-    match editor::open(chart, &mut records[0..r], &mut values[0..v]) {
-        Verdict::Accepted => text::put_all(out, at, b"opened\n"),
-        Verdict::Refused(x) => {
-            let end = lines::put_refusal(out, at, x);
-            put_change(out, end, before, hash_all(chart, records, values))
-        }
-    }
+    let verdict = editor::open(chart, &mut records[0..r], &mut values[0..v]);
+    let after = hash_all(chart, records, values);
+    put_verdict(out, at, verdict, b"opened\n", before, after)
 }
 
 fn replace(
@@ -99,16 +100,12 @@ fn replace(
     records: &mut [f64],
     values: &mut [f64],
 ) -> usize {
-    let r = next_length(records.len());
-    let v = next_length(values.len());
+    let r = packs::next_length(records.len());
+    let v = packs::next_length(values.len());
     let before = hash_all(chart, records, values);
-    match editor::replace(chart, place, object, &mut records[0..r], &mut values[0..v]) {
-        Verdict::Accepted => text::put_all(out, at, b"accepted\n"),
-        Verdict::Refused(x) => {
-            let end = lines::put_refusal(out, at, x);
-            put_change(out, end, before, hash_all(chart, records, values))
-        }
-    }
+    let verdict = editor::replace(chart, place, object, &mut records[0..r], &mut values[0..v]);
+    let after = hash_all(chart, records, values);
+    put_verdict(out, at, verdict, b"accepted\n", before, after)
 }
 
 // Reads the place and the object before the call.
@@ -130,7 +127,7 @@ fn read_and_replace(
 
 fn record(out: &mut [u8], at: usize, chart: &[u8], records: &[f64]) -> usize {
     let place = packs::next_long() as usize;
-    let r = next_length(records.len());
+    let r = packs::next_length(records.len());
     match editor::read_record(chart, &records[0..r], place) {
         RecordAnswer::Refused(x) => lines::put_refusal(out, at, x),
         RecordAnswer::Record(x) => {
@@ -142,7 +139,7 @@ fn record(out: &mut [u8], at: usize, chart: &[u8], records: &[f64]) -> usize {
 
 fn value(out: &mut [u8], at: usize, chart: &[u8], values: &[f64]) -> usize {
     let place = packs::next_long() as usize;
-    let v = next_length(values.len());
+    let v = packs::next_length(values.len());
     match editor::read_values(chart, &values[0..v], place) {
         ValuesAnswer::Refused(x) => lines::put_refusal(out, at, x),
         ValuesAnswer::Values(x) => {
@@ -229,11 +226,11 @@ fn read_and_total(
     c: &mut [f64],
     d: &mut [f64],
 ) -> usize {
-    let v = next_length(values.len());
-    let m = next_length(a.len());
-    let n = next_length(b.len());
-    let o = next_length(c.len());
-    let p = next_length(d.len());
+    let v = packs::next_length(values.len());
+    let m = packs::next_length(a.len());
+    let n = packs::next_length(b.len());
+    let o = packs::next_length(c.len());
+    let p = packs::next_length(d.len());
     totals(
         out,
         at,
@@ -323,10 +320,10 @@ fn calls(
     c: &mut [f64],
     d: &mut [f64],
 ) -> usize {
-    let mut left = next_length(MOST);
+    let mut left = packs::next_length(MOST);
     let mut end = 0;
     while 0 < left {
-        end = lines::show_if_full(out, end);
+        end = text::show_if_full(out, end);
         end = call(out, end, chart, object, records, values, a, b, c, d);
         left -= 1;
     }
@@ -407,7 +404,7 @@ fn finish(
 ) {
     let line = put_chart(out, at, chart);
     let end = put_kept(out, line, chart, pattern, records, values);
-    lines::show(out, end);
+    text::show(out, end);
 }
 
 // One script on its chart.

@@ -32,7 +32,7 @@ fn put_places(
     let mut end = at;
     let mut j = 1;
     while j < n {
-        end = lines::show_if_full(out, end);
+        end = text::show_if_full(out, end);
         end = text::put_decimal(out, end, j as u64);
         let aim = number_at(a, j);
         let aim_no_sliders = number_at(b, j);
@@ -126,7 +126,7 @@ fn list(
 {
     let places = put_strains(out, chart, lay, clock, values, a, b, c, d);
     let end = put_totals(out, places, chart, lay, clock, values, a, b, c, d);
-    lines::show(out, end);
+    text::show(out, end);
 }
 
 // The tables of a chart that is ready to be read.
@@ -151,10 +151,7 @@ fn answer(
     requires { ⌜ (16384 ≤ length (now t)) × (5120 ≤ length (now values)) × (8192 ≤ length (now a)) × (8192 ≤ length (now b)) × (8192 ≤ length (now c)) × (8192 ≤ length (now d)) ⌝ }
 {
     match opening::check(chart, 1024) {
-        Verdict::Refused(r) => {
-            let end = lines::put_refusal(out, 0, r);
-            lines::show(out, end);
-        }
+        Verdict::Refused(r) => lines::show_refusal(out, r),
         Verdict::Accepted => {
             let lay = opening::layout_of(chart);
             let set = opening::settings_at(chart, 32);

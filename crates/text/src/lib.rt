@@ -72,3 +72,19 @@ pub fn put_decimal(out: &mut [u8], at: usize, v: u64) -> usize {
     let n = io::decimal(v, &mut digits);
     put_all(out, at, &digits[..n])
 }
+
+// Writes the first n bytes of the buffer.
+pub fn show(out: &[u8], n: usize) {
+    if n <= out.len() {
+        io::write_all(1, &out[0..n]);
+    }
+}
+
+// Writes them once half of the buffer is full; the offset at which the next line begins.
+pub fn show_if_full(out: &[u8], n: usize) -> usize {
+    if n <= out.len() / 2 {
+        return n;
+    }
+    show(out, n);
+    0
+}

@@ -25,7 +25,7 @@ enum-told c = search needs
 row-at-requires : tie.Need-row-at-requires
 row-at-requires c κs =
     let d = read _ _ _ (sym (c .before .before .check-reading .ensures) ∙ c .enum-told .given .1) in
-    (omega (arith, d .few, d .below), omega (arith, d .room, d .below))
+    omega (arith, d .room, d .below)
 
 returns : tie.Need-returns
 unfolding refuse

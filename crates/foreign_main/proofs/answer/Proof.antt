@@ -1,16 +1,9 @@
 -- `foreign_main::answer` meets its contract: what `check` accepts is ready to be evaluated, whatever the table holds. Assumes nothing.
-use Prim.Native.Nat.{ℕ, _*_, _≤_}
 use native.Mathlib.Omega.{arith}
-use Rattle.lines.proofs.Opened.{long, few, is-ready}
+use Rattle.lines.proofs.Opened.{long, fits}
 use borrow.Author.Needs.{needs}
 use Rattle.foreign_main.proofs.answer.Statement.{statement}
 use Rattle.foreign_main.proofs.answer.Tie as tie
-
-room : (n t : ℕ) → n ≤ 512 → 8192 ≤ t → 16 * n ≤ t
-room n t h l = omega arith
-
-room-values : (n v : ℕ) → n ≤ 512 → 2560 ≤ v → 5 * n ≤ v
-room-values n v h l = omega arith
 
 check-requires : tie.Need-check-requires
 check-requires c κs = search needs
@@ -18,11 +11,8 @@ check-requires c κs = search needs
 enum-known-r : tie.Need-enum-known-r
 enum-known-r c = search needs
 
-put-refusal-requires : tie.Need-put-refusal-requires
-put-refusal-requires c κs = search needs
-
-show-requires : tie.Need-show-requires
-show-requires c κs = search needs
+show-refusal-requires : tie.Need-show-refusal-requires
+show-refusal-requires c κs = search needs
 
 enum-told : tie.Need-enum-told
 enum-told c = search needs
@@ -34,15 +24,15 @@ settings-at-requires : tie.Need-settings-at-requires
 settings-at-requires c κs = long _ 512 _ (c .before .before .before .check .ensures) (c .before .enum-told .given .1)
 
 mul-read-numbers : tie.Need-mul-read-numbers
-mul-read-numbers c = let f = few _ 512 _ (c .before .before .before .before .before .check .ensures) (c .before .before .before .enum-told .given .1) _ (c .before .before .layout-of .ensures) in search needs
+mul-read-numbers c = let f = fits _ 512 _ (c .before .before .before .before .before .check .ensures) (c .before .before .before .enum-told .given .1) _ (c .before .before .layout-of .ensures) .few in search needs
 
 read-numbers-requires : tie.Need-read-numbers-requires
 read-numbers-requires c κs = search needs
 
 fill-values-requires : tie.Need-fill-values-requires
 fill-values-requires c κs =
-    let f = few _ 512 _ (c .before .before .before .before .before .before .before .before .before .before .before .before .before .before .check .ensures) (c .before .before .before .before .before .before .before .before .before .before .before .before .enum-told .given .1) _ (c .before .before .before .before .before .before .before .before .before .before .before .layout-of .ensures) in
-    (is-ready _ 512 _ (c .before .before .before .before .before .before .before .before .before .before .before .before .before .before .check .ensures) (c .before .before .before .before .before .before .before .before .before .before .before .before .enum-told .given .1) _ (c .before .before .before .before .before .before .before .before .before .before .before .layout-of .ensures), search needs, search needs, room _ _ f (search needs), room-values _ _ f (search needs))
+    let f = fits _ 512 _ (c .before .before .before .before .before .before .before .before .before .before .before .before .before .before .check .ensures) (c .before .before .before .before .before .before .before .before .before .before .before .before .enum-told .given .1) _ (c .before .before .before .before .before .before .before .before .before .before .before .layout-of .ensures) in
+    (f .ready, search needs, search needs, f .record-room _ (omega (arith, c .before .before .before .before .before .before .before .before .before .before .before .before .before .before .before .before .before .before .before .before .pre .0, c .before .before .before .before .before .before .read-numbers .kept .1 .1 .0)), f .value-room _ (c .before .before .before .before .before .before .before .before .before .before .before .before .before .before .before .before .before .before .before .before .pre .1))
 
 show-values-requires : tie.Need-show-values-requires
 show-values-requires c κs = search needs
@@ -74,8 +64,7 @@ answer-spec =
     (tie.spec
     check-requires
     enum-known-r
-    put-refusal-requires
-    show-requires
+    show-refusal-requires
     enum-told
     layout-of-requires
     settings-at-requires

@@ -1,5 +1,5 @@
--- `outer_main::answer` is safe: what `check` accepts is ready to be filled from. Assumes nothing.
-use Rattle.outer_main.proofs.Opened.{long, few, is-ready, room}
+-- `outer_main::answer` meets its contract: what `check` accepts is ready to be filled from. Assumes nothing.
+use Rattle.lines.proofs.Opened.{long, fits}
 use borrow.Author.Needs.{needs}
 use Rattle.outer_main.proofs.answer.Statement.{statement}
 use Rattle.outer_main.proofs.answer.Tie as tie
@@ -17,25 +17,35 @@ enum-told : tie.Need-enum-told
 enum-told c = search needs
 
 layout-of-requires : tie.Need-layout-of-requires
-layout-of-requires c κs = long _ _ (c .before .before .check .ensures) (c .enum-told .given .1)
+layout-of-requires c κs = long _ 65 _ (c .before .before .check .ensures) (c .enum-told .given .1)
 
 settings-at-requires : tie.Need-settings-at-requires
-settings-at-requires c κs = long _ _ (c .before .before .before .check .ensures) (c .before .enum-told .given .1)
+settings-at-requires c κs = long _ 65 _ (c .before .before .before .check .ensures) (c .before .enum-told .given .1)
 
 fill-requires : tie.Need-fill-requires
-fill-requires c κs = (is-ready _ _ (c .before .before .before .before .before .check .ensures) (c .before .before .before .enum-told .given .1) _ (c .before .before .layout-of .ensures), room _ _ (few _ _ (c .before .before .before .before .before .check .ensures) (c .before .before .before .enum-told .given .1) _ (c .before .before .layout-of .ensures)) (search needs))
+fill-requires c κs =
+    let f = fits _ 65 _ (c .before .before .before .before .before .check .ensures) (c .before .before .before .enum-told .given .1) _ (c .before .before .layout-of .ensures) in
+    (f .ready, f .record-room _ (search needs))
 
 records-of-requires : tie.Need-records-of-requires
-records-of-requires c κs = (few _ _ (c .before .before .before .before .before .before .before .before .before .check .ensures) (c .before .before .before .before .before .before .before .enum-told .given .1) _ (c .before .before .before .before .before .before .layout-of .ensures), search needs)
+records-of-requires c κs =
+    let f = fits _ 65 _ (c .before .before .before .before .before .before .before .before .before .before .check .ensures) (c .before .before .before .before .before .before .before .before .enum-told .given .1) _ (c .before .before .before .before .before .before .before .layout-of .ensures) in
+    (f .few, search needs)
 
 show-values-requires : tie.Need-show-values-requires
-show-values-requires c κs = is-ready _ _ (c .before .before .before .before .before .before .before .before .before .before .check .ensures) (c .before .before .before .before .before .before .before .before .enum-told .given .1) _ (c .before .before .before .before .before .before .before .layout-of .ensures)
+show-values-requires c κs = fits _ 65 _ (c .before .before .before .before .before .before .before .before .before .before .before .check .ensures) (c .before .before .before .before .before .before .before .before .before .enum-told .given .1) _ (c .before .before .before .before .before .before .before .before .layout-of .ensures) .ready
+
+same-length : tie.Need-same-length
+same-length c = search needs
 
 returns : tie.Need-returns
 returns c = search needs
 
-same-length : tie.Need-same-length
-same-length c = search needs
+same-length-2 : tie.Need-same-length-2
+same-length-2 c = search needs
+
+same-length-3 : tie.Need-same-length-3
+same-length-3 c = search needs
 
 returns-2 : tie.Need-returns-2
 returns-2 c = search needs
@@ -53,6 +63,8 @@ answer-spec =
     fill-requires
     records-of-requires
     show-values-requires
-    returns
     same-length
+    returns
+    same-length-2
+    same-length-3
     returns-2)

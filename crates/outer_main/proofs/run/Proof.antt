@@ -1,4 +1,4 @@
--- `outer_main::run` is safe and ends: the buffers keep their lengths. Assumes nothing.
+-- `outer_main::run` meets its contract: the buffers keep their lengths. Assumes nothing.
 use mathlib.Core.Path.{_≡_}
 use lib.ListN.{length}
 use borrow.Author.Needs.{needs}
@@ -6,10 +6,10 @@ use Rattle.outer_main.proofs.run.Statement.{statement}
 use Rattle.outer_main.proofs.run.Tie as tie
 
 abbrev Inv-loop : tie.InvT-loop
-Inv-loop chart₀ t₀ left₀ chart t left = (length chart ≡ length chart₀) × (length t ≡ length t₀)
+Inv-loop out₀ chart₀ t₀ left₀ out chart t left = (length out ≡ length out₀) × (length chart ≡ length chart₀) × (length t ≡ length t₀)
 
 abbrev μ-loop : tie.MeasureT-loop
-μ-loop chart₀ t₀ left₀ chart t left = left
+μ-loop out₀ chart₀ t₀ left₀ out chart t left = left
 
 loop-holds : tie.Need-loop-holds Inv-loop μ-loop
 loop-holds c = search needs
@@ -50,6 +50,9 @@ same-length c = search needs
 same-length-2 : tie.Need-same-length-2 Inv-loop μ-loop
 same-length-2 c = search needs
 
+same-length-3 : tie.Need-same-length-3 Inv-loop μ-loop
+same-length-3 c = search needs
+
 returns : tie.Need-returns Inv-loop μ-loop
 returns c = search needs
 
@@ -72,4 +75,5 @@ run-spec =
     loop-again-2
     same-length
     same-length-2
+    same-length-3
     returns)

@@ -1,17 +1,19 @@
--- `outer_main::show_values` is safe and ends. Assumes nothing.
+-- `outer_main::show_values` meets its contract: the buffer keeps its length. Assumes nothing.
 use Prim.Native.Nat.{_-_, _≤_}
+use mathlib.Core.Path.{_≡_}
+use lib.ListN.{length}
 use borrow.Author.Needs.{needs}
 use Rattle.outer_main.proofs.show_values.Statement.{statement}
 use Rattle.outer_main.proofs.show_values.Tie as tie
 
 abbrev Inv-loop : tie.InvT-loop
-Inv-loop chart rs lay set j₀ j = 1 ≤ j
+Inv-loop out₀ chart rs lay set end₀ j₀ out end j = (1 ≤ j) × (length out ≡ length out₀)
 
 abbrev μ-loop : tie.MeasureT-loop
-μ-loop chart rs lay set j₀ j = lay .n - j
+μ-loop out₀ chart rs lay set end₀ j₀ out end j = lay .n - j
 
-show-count-requires : tie.Need-show-count-requires Inv-loop μ-loop
-show-count-requires c κs = search needs
+put-count-requires : tie.Need-put-count-requires Inv-loop μ-loop
+put-count-requires c κs = search needs
 
 loop-holds : tie.Need-loop-holds Inv-loop μ-loop
 loop-holds c = search needs
@@ -19,8 +21,8 @@ loop-holds c = search needs
 values-of-array-requires : tie.Need-values-of-array-requires Inv-loop μ-loop
 values-of-array-requires c κs = search needs
 
-show-place-requires : tie.Need-show-place-requires Inv-loop μ-loop
-show-place-requires c κs = search needs
+put-values-requires : tie.Need-put-values-requires Inv-loop μ-loop
+put-values-requires c κs = search needs
 
 add-j : tie.Need-add-j Inv-loop μ-loop
 add-j c = search needs
@@ -31,6 +33,12 @@ loop-less c = search needs
 loop-again : tie.Need-loop-again Inv-loop μ-loop
 loop-again c = search needs
 
+show-requires : tie.Need-show-requires Inv-loop μ-loop
+show-requires c κs = search needs
+
+same-length : tie.Need-same-length Inv-loop μ-loop
+same-length c = search needs
+
 returns : tie.Need-returns Inv-loop μ-loop
 returns c = search needs
 
@@ -40,11 +48,13 @@ show-values-spec =
     (tie.spec
     Inv-loop
     μ-loop
-    show-count-requires
+    put-count-requires
     loop-holds
     values-of-array-requires
-    show-place-requires
+    put-values-requires
     add-j
     loop-less
     loop-again
+    show-requires
+    same-length
     returns)

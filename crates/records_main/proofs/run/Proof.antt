@@ -1,4 +1,4 @@
--- `records_main::run` meets its contract: both buffers keep their length. Assumes nothing.
+-- `records_main::run` meets its contract: the buffers keep their lengths. Assumes nothing.
 use mathlib.Core.Path.{_≡_}
 use lib.ListN.{length}
 use borrow.Author.Needs.{needs}
@@ -6,64 +6,53 @@ use Rattle.records_main.proofs.run.Statement.{statement}
 use Rattle.records_main.proofs.run.Tie as tie
 
 abbrev Inv-loop : tie.InvT-loop
-Inv-loop chart₀ t₀ left₀ chart t left = (length chart ≡ length chart₀) × (length t ≡ length t₀)
+Inv-loop out₀ chart₀ t₀ left₀ out chart t left = (length out ≡ length out₀) × (length chart ≡ length chart₀) × (length t ≡ length t₀)
 
 abbrev μ-loop : tie.MeasureT-loop
-μ-loop chart₀ t₀ left₀ chart t left = left
+μ-loop out₀ chart₀ t₀ left₀ out chart t left = left
 
--- src/main.rt:128:5
 loop-holds : tie.Need-loop-holds Inv-loop μ-loop
 loop-holds c = search needs
 
--- src/main.rt:129:13
 read-chart-requires : tie.Need-read-chart-requires Inv-loop μ-loop
 read-chart-requires c κs = search needs
 
--- src/main.rt:131:20
 sub-answer : tie.Need-sub-answer Inv-loop μ-loop
 sub-answer c = search needs
 
--- src/main.rt:131:20
 part-answer-start : tie.Need-part-answer-start Inv-loop μ-loop
 part-answer-start c = search needs
 
--- src/main.rt:131:20
 part-answer-end : tie.Need-part-answer-end Inv-loop μ-loop
 part-answer-end c = search needs
 
--- src/main.rt:131:13
 answer-requires : tie.Need-answer-requires Inv-loop μ-loop
 answer-requires c κs = search needs
 
--- src/main.rt:132:13
 sub-left : tie.Need-sub-left Inv-loop μ-loop
 sub-left c = search needs
 
--- src/main.rt:128:5
 loop-less : tie.Need-loop-less Inv-loop μ-loop
 loop-less c = search needs
 
--- src/main.rt:128:5
 loop-again : tie.Need-loop-again Inv-loop μ-loop
 loop-again c = search needs
 
--- src/main.rt:128:5
 loop-less-2 : tie.Need-loop-less-2 Inv-loop μ-loop
 loop-less-2 c = search needs
 
--- src/main.rt:128:5
 loop-again-2 : tie.Need-loop-again-2 Inv-loop μ-loop
 loop-again-2 c = search needs
 
--- src/main.rt:124:1
 same-length : tie.Need-same-length Inv-loop μ-loop
 same-length c = search needs
 
--- src/main.rt:124:1
 same-length-2 : tie.Need-same-length-2 Inv-loop μ-loop
 same-length-2 c = search needs
 
--- src/main.rt:124:1
+same-length-3 : tie.Need-same-length-3 Inv-loop μ-loop
+same-length-3 c = search needs
+
 returns : tie.Need-returns Inv-loop μ-loop
 returns c = search needs
 
@@ -86,4 +75,5 @@ run-spec =
     loop-again-2
     same-length
     same-length-2
+    same-length-3
     returns)

@@ -1,4 +1,4 @@
--- `replacements::calls` meets its contract: the chart keeps its length, and left falls. Assumes nothing.
+-- `replacements::calls` meets its contract: the buffers keep their lengths. Assumes nothing.
 use mathlib.Core.Path.{_≡_}
 use lib.ListN.{length}
 use borrow.Author.Needs.{needs}
@@ -6,40 +6,41 @@ use Rattle.replacements.proofs.calls.Statement.{statement}
 use Rattle.replacements.proofs.calls.Tie as tie
 
 abbrev Inv-loop : tie.InvT-loop
-Inv-loop chart₀ n left₀ chart left = length chart ≡ length chart₀
+Inv-loop out₀ chart₀ object₀ left₀ out chart object left = (length out ≡ length out₀) × (length chart ≡ length chart₀) × (length object ≡ length object₀)
 
 abbrev μ-loop : tie.MeasureT-loop
-μ-loop chart₀ n left₀ chart left = left
+μ-loop out₀ chart₀ object₀ left₀ out chart object left = left
 
--- src/main.rt:91:5
+next-length-requires : tie.Need-next-length-requires Inv-loop μ-loop
+next-length-requires c κs = search needs
+
 loop-holds : tie.Need-loop-holds Inv-loop μ-loop
 loop-holds c = search needs
 
--- src/main.rt:92:9
 call-requires : tie.Need-call-requires Inv-loop μ-loop
 call-requires c κs = search needs
 
--- src/main.rt:93:9
 sub-left : tie.Need-sub-left Inv-loop μ-loop
 sub-left c = search needs
 
--- src/main.rt:91:5
 loop-less : tie.Need-loop-less Inv-loop μ-loop
 loop-less c = search needs
 
--- src/main.rt:91:5
 loop-again : tie.Need-loop-again Inv-loop μ-loop
 loop-again c = search needs
 
--- src/main.rt:95:5
 show-checksum-requires : tie.Need-show-checksum-requires Inv-loop μ-loop
 show-checksum-requires c κs = search needs
 
--- src/main.rt:89:1
 same-length : tie.Need-same-length Inv-loop μ-loop
 same-length c = search needs
 
--- src/main.rt:89:1
+same-length-2 : tie.Need-same-length-2 Inv-loop μ-loop
+same-length-2 c = search needs
+
+same-length-3 : tie.Need-same-length-3 Inv-loop μ-loop
+same-length-3 c = search needs
+
 returns : tie.Need-returns Inv-loop μ-loop
 returns c = search needs
 
@@ -49,6 +50,7 @@ calls-spec =
     (tie.spec
     Inv-loop
     μ-loop
+    next-length-requires
     loop-holds
     call-requires
     sub-left
@@ -56,4 +58,6 @@ calls-spec =
     loop-again
     show-checksum-requires
     same-length
+    same-length-2
+    same-length-3
     returns)

@@ -1,16 +1,9 @@
 -- `strains_main::answer` meets its contract: what `check` accepts is ready to be filled from. Assumes nothing.
-use Prim.Native.Nat.{ℕ, _*_, _≤_}
 use native.Mathlib.Omega.{arith}
-use Rattle.lines.proofs.Opened.{long, few, is-ready, has-rows}
+use Rattle.lines.proofs.Opened.{long, fits}
 use borrow.Author.Needs.{needs}
 use Rattle.strains_main.proofs.answer.Statement.{statement}
 use Rattle.strains_main.proofs.answer.Tie as tie
-
-room : (n t : ℕ) → n ≤ 1024 → 16384 ≤ t → 16 * n ≤ t
-room n t h l = omega arith
-
-room-values : (n v : ℕ) → n ≤ 1024 → 5120 ≤ v → 5 * n ≤ v
-room-values n v h l = omega arith
 
 check-requires : tie.Need-check-requires
 check-requires c κs = search needs
@@ -18,11 +11,8 @@ check-requires c κs = search needs
 enum-known-r : tie.Need-enum-known-r
 enum-known-r c = search needs
 
-put-refusal-requires : tie.Need-put-refusal-requires
-put-refusal-requires c κs = search needs
-
-show-requires : tie.Need-show-requires
-show-requires c κs = search needs
+show-refusal-requires : tie.Need-show-refusal-requires
+show-refusal-requires c κs = search needs
 
 enum-told : tie.Need-enum-told
 enum-told c = search needs
@@ -35,13 +25,14 @@ settings-at-requires c κs = long _ 1024 _ (c .before .before .before .check .en
 
 fill-tables-requires : tie.Need-fill-tables-requires
 fill-tables-requires c κs =
-    let f = few _ 1024 _ (c .before .before .before .before .before .before .check .ensures) (c .before .before .before .before .enum-told .given .1) _ (c .before .before .before .layout-of .ensures) in
-    (is-ready _ 1024 _ (c .before .before .before .before .before .before .check .ensures) (c .before .before .before .before .enum-told .given .1) _ (c .before .before .before .layout-of .ensures), room _ _ f (search needs), room-values _ _ f (search needs))
+    let f = fits _ 1024 _ (c .before .before .before .before .before .before .check .ensures) (c .before .before .before .before .enum-told .given .1) _ (c .before .before .before .layout-of .ensures) in
+    (f .ready, f .record-room _ (search needs), f .value-room _ (search needs))
 
 list-requires : tie.Need-list-requires
 list-requires c κs =
-    let f = few _ 1024 _ (c .before .before .before .before .before .before .before .before .before .before .before .before .before .before .before .before .before .check .ensures) (c .before .before .before .before .before .before .before .before .before .before .before .before .before .before .before .enum-told .given .1) _ (c .before .before .before .before .before .before .before .before .before .before .before .before .before .before .layout-of .ensures) in
-    (has-rows _ 1024 _ (c .before .before .before .before .before .before .before .before .before .before .before .before .before .before .before .before .before .check .ensures) (c .before .before .before .before .before .before .before .before .before .before .before .before .before .before .before .enum-told .given .1) _ (c .before .before .before .before .before .before .before .before .before .before .before .before .before .before .layout-of .ensures) _ (room-values _ _ f (omega (arith, c .before .before .before .before .before .before .before .before .before .before .before .before .before .before .before .before .before .before .before .before .before .before .before .before .before .before .pre .1, c .before .before .before .before .before .before .before .before .before .before .fill-tables .kept .1 .1 .1 .1 .0))), f, c .before .before .before .before .before .before .before .before .before .before .before .before .before .before .before .before .before .before .before .before .before .before .before .before .before .before .pre .2, c .before .before .before .before .before .before .before .before .before .before .before .before .before .before .before .before .before .before .before .before .before .before .before .before .before .before .pre .3, c .before .before .before .before .before .before .before .before .before .before .before .before .before .before .before .before .before .before .before .before .before .before .before .before .before .before .pre .4, c .before .before .before .before .before .before .before .before .before .before .before .before .before .before .before .before .before .before .before .before .before .before .before .before .before .before .pre .5)
+    let f = fits _ 1024 _ (c .before .before .before .before .before .before .before .before .before .before .before .before .before .before .before .before .before .check .ensures) (c .before .before .before .before .before .before .before .before .before .before .before .before .before .before .before .enum-told .given .1) _ (c .before .before .before .before .before .before .before .before .before .before .before .before .before .before .layout-of .ensures) in
+    let p = c .before .before .before .before .before .before .before .before .before .before .before .before .before .before .before .before .before .before .before .before .before .before .before .before .before .before .pre in
+    (f .readable _ (f .value-room _ (omega (arith, p .1, c .before .before .before .before .before .before .before .before .before .before .fill-tables .kept .1 .1 .1 .1 .0))), f .few, p .2, p .3, p .4, p .5)
 
 same-length : tie.Need-same-length
 same-length c = search needs
@@ -79,8 +70,7 @@ answer-spec =
     (tie.spec
     check-requires
     enum-known-r
-    put-refusal-requires
-    show-requires
+    show-refusal-requires
     enum-told
     layout-of-requires
     settings-at-requires

@@ -1,10 +1,10 @@
--- `foreign_main::show_values` meets its contract: the buffer keeps its length. Assumes nothing.
+-- `lines::show_values` meets its contract: the buffer keeps its length. Assumes nothing.
 use borrow.Author.Needs.{needs}
 use Prim.Native.Nat.{_-_}
 use mathlib.Core.Path.{_≡_}
 use lib.ListN.{length}
-use Rattle.foreign_main.proofs.show_values.Statement.{statement}
-use Rattle.foreign_main.proofs.show_values.Tie as tie
+use Rattle.lines.proofs.show_values.Statement.{statement}
+use Rattle.lines.proofs.show_values.Tie as tie
 
 abbrev Inv-loop : tie.InvT-loop
 Inv-loop out₀ values n end₀ j₀ out end j = length out ≡ length out₀
@@ -15,17 +15,17 @@ abbrev μ-loop : tie.MeasureT-loop
 returns : tie.Need-returns Inv-loop μ-loop
 returns c = search needs
 
-returns-2 : tie.Need-returns-2 Inv-loop μ-loop
-returns-2 c = search needs
-
 put-count-requires : tie.Need-put-count-requires Inv-loop μ-loop
 put-count-requires c κs = search needs
 
 loop-holds : tie.Need-loop-holds Inv-loop μ-loop
 loop-holds c = search needs
 
-values-in-requires : tie.Need-values-in-requires Inv-loop μ-loop
-values-in-requires c κs = search needs
+show-if-full-requires : tie.Need-show-if-full-requires Inv-loop μ-loop
+show-if-full-requires c κs = search needs
+
+row-at-requires : tie.Need-row-at-requires Inv-loop μ-loop
+row-at-requires c κs = search needs
 
 put-values-requires : tie.Need-put-values-requires Inv-loop μ-loop
 put-values-requires c κs = search needs
@@ -45,8 +45,8 @@ show-requires c κs = search needs
 same-length : tie.Need-same-length Inv-loop μ-loop
 same-length c = search needs
 
-returns-3 : tie.Need-returns-3 Inv-loop μ-loop
-returns-3 c = search needs
+returns-2 : tie.Need-returns-2 Inv-loop μ-loop
+returns-2 c = search needs
 
 pub show-values-spec : {M : Type 1} → statement M
 show-values-spec =
@@ -55,14 +55,14 @@ show-values-spec =
     Inv-loop
     μ-loop
     returns
-    returns-2
     put-count-requires
     loop-holds
-    values-in-requires
+    show-if-full-requires
+    row-at-requires
     put-values-requires
     add-j
     loop-less
     loop-again
     show-requires
     same-length
-    returns-3)
+    returns-2)

@@ -1,10 +1,10 @@
--- `editor::row_at` meets its contract. Assumes nothing.
+-- `evaluators::row_at` meets its contract. Assumes nothing.
 use Rattle.evaluators.specs.Values.{rowOf}
-use Rattle.editor.proofs.Readings.{row-five}
+use Rattle.evaluators.proofs.Rows.{row-five}
 use mathlib.Core.Path.{sym}
 use borrow.Author.Needs.{needs}
-use Rattle.editor.proofs.row_at.Statement.{statement}
-use Rattle.editor.proofs.row_at.Tie as tie
+use Rattle.evaluators.proofs.row_at.Statement.{statement}
+use Rattle.evaluators.proofs.row_at.Tie as tie
 
 mul-at : tie.Need-mul-at
 mul-at c = search needs
@@ -54,7 +54,7 @@ shared-slice-read-t22 c = search needs
 returns : tie.Need-returns
 unfolding rowOf
 returns c =
-    sym (row-five (c .before .before .before .before .before .args .values .now) (c .before .before .before .before .before .args .place) (c .before .before .before .before .before .pre .1))
+    sym (row-five (c .before .before .before .before .before .args .values .now) (c .before .before .before .before .before .args .j) (c .before .before .before .before .before .pre))
 
 pub row-at-spec : {M : Type 1} → statement M
 row-at-spec =
