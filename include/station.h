@@ -10,7 +10,7 @@
  *
  * Every call answers 0 where it is carried out. Else it answers the refusal's number times 2^32 plus its place, and changes nothing:
  * chart, tables, scratch and out stay as they were. The first of these that is met is answered:
- *   1 header, length, counts, offsets or reserved bits wrong      5 a start before its predecessor's
+ *   1 no chart of this length by its header, or a reserved bit    5 an object that starts before the one before it
  *   2 a setting outside its range                                 6 the chart is too long in time
  *   3 an object's own fields wrong                                7 a table, scratch or out is too short
  *   4 a slider's nested entries or points wrong                   8 no such place

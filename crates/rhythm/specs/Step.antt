@@ -44,7 +44,7 @@ unfoldable pub decayOf : Float → Float → ℕ → ℕ → Float
 decayOf start other hist k =
     minOf (ofNat (hist - k) ⊘ ofNat hist) ((historyTimeMax ⊖ (start ⊖ other)) ⊘ historyTimeMax)
 
--- "previous increase happened a note ago"
+-- two increases of speed in a row
 unfoldable pub fasterTwice : Deltas → Float → Bool
 fasterTwice d eps = cond (Ieee.lt (d .prev ⊕ eps) (d .last)) (Ieee.lt (d .curr ⊕ eps) (d .prev)) false
 
@@ -153,7 +153,7 @@ stepBy w d curr prev decay window eps =
     (kept w (beganOf s (scaledOf (scaledOf ratio (curr .slider) sixTenths) (prev .slider) sixTenths) (Ieee.toSigned 31 (d .curr)) eps))
     w)
 
--- "Use custom cap value to ensure that at this point delta time is actually zero"
+-- a delta time that can be divided by
 abbrev pub atLeast : Float → Float
 atLeast delta = maxOf delta leastDelta
 
