@@ -1,118 +1,104 @@
--- The frame of a replacement, in any state. Assumes nothing.
-use mathlib.Core.Path.{_≡_, refl, ap, _∙_, subst⁻¹}
+-- The frame of a replacement, in any state and whatever tables it borrows. Assumes nothing.
+use mathlib.Core.Path.{_≡_, refl, sym, ap, _∙_, subst⁻¹}
 use mathlib.Core.List.{List}
-use mathlib.Core.Option.{Option, none, some}
-use Prim.Native.Nat.{ℕ, _+_, _≤_, _<_}
+use Prim.Native.Nat.{ℕ, _+_, _-_, _*_, _≤_, _<_, min, max}
 use native.Mathlib.Omega.{arith}
 use lib.Ieee.{Float}
 use lib.ListN.{length}
 use Rattle.tables.specs.Parts.{row}
+use Rattle.opening.specs.Header.{layoutOf, settingsOf}
+use Rattle.opening.specs.declared.Settings.{Settings}
+use Rattle.opening.specs.declared.Verdict.{Verdict}
+use Rattle.opening.specs.declared.Verdict.the-variants.{Accepted, Refused}
+use Rattle.replacing.specs.Replace.{putObject}
+use Rattle.replacing.specs.Accepted.{Taken}
 use Rattle.skills.specs.Strains.{strains}
-use Rattle.calls.specs.Rules.{Rules}
-use Rattle.calls.specs.Conditions.{putObject, Met, replace, refusal}
-use Rattle.calls.specs.Calls.{Opened, Borrowed, own, foreign, contents, tableAfter, stateAfter, deltaAt, strainFrom, editRecords, editValues, execute, refuse, unless, outcome, outcomeIn, perform}
-use Rattle.calls.specs.Statement.{Frame}
-use Rattle.calls.specs.Laws.{Laws}
-use Rattle.calls.proofs.Refusals.{Accepted, accepted-replace}
+use Rattle.skills.specs.Chart.{deltaAt}
+use Rattle.calls.specs.Tables.{recordWidth, valueWidth, Borrowed, contents, tableAfter}
+use Rattle.calls.specs.Afresh.{count, freshRow, valuesFrom, strainsFrom}
+use Rattle.calls.specs.Conditions.{replace}
+use Rattle.calls.specs.Calls.{recordsStart, recordsMade, valuesStart, valuesMade, editRecords, editValues, State, edited, execute, verdictIn, Call, lent, stateAfter, perform}
+use Rattle.calls.specs.Statement.{Frame, FrameAfresh}
+use Rattle.calls.proofs.Refusals.{Roomy, accepted-replace}
 use Rattle.calls.proofs.Replacing.{count-same, settings-same, object-same}
-use Rattle.calls.proofs.Locality.{edit-record-kept, edit-value-kept, afresh-frame, strain-local}
+use Rattle.calls.proofs.Locality.{record-width, value-width, afresh-frame, strain-local}
+use Rattle.calls.proofs.Front.{row-after}
+use Rattle.calls.proofs.Steps.{perform-accepted, perform-refused}
 
--- a row of the opening's table that the call leaves alone in what it borrows
-own-row : (w : ℕ) (t : Borrowed) (x y : List Float) (j : ℕ) → row w y j ≡ row w (contents t x) j → row w (tableAfter t y x) j ≡ row w x j
-unfolding contents tableAfter
-own-row w own x y j e = e
-own-row w (foreign t') x y j e = refl
-
-module _ (R : Rules) (L : Laws R) where
-  open Rules R using (settings, object)
-
-  frame-refl : (k : ℕ) (st : Opened) → Frame R k st st
-  frame-refl k st = record {
-    records-before = λ j h. refl;
-    records-after = λ j h. refl;
-    values-before = λ j h. refl;
-    values-after = λ j h. refl;
+frame-refl : (k : ℕ) (st : State) → Frame k st st
+frame-refl k st = record {
+  records-before = λ j h. refl;
+  records-after = λ j h. refl;
+  values-before = λ j h. refl;
+  values-after = λ j h. refl;
+  strains-before = λ j h. refl;
+  afresh = record {
+    records-before = λ j q h. refl;
+    records-after = λ j q h. refl;
+    values-before = λ j p q h. refl;
+    values-after = λ j p q h. refl;
     strains-before = λ j h. refl;
-    afresh = record {
-      records-before = λ j q h. refl;
-      records-after = λ j q h. refl;
-      values-before = λ j p q h. refl;
-      values-after = λ j p q h. refl;
-      strains-before = λ j h. refl;
-    };
-  }
+  };
+}
 
-  strains-kept : (k : ℕ) (o : List ℕ) (r v : ℕ) (b : List ℕ) → Accepted R k o r v b → (vs vs' : List Float)
-      → ((j : ℕ) → j + 1 < k → row 5 vs' j ≡ row 5 vs j) → (j : ℕ) → j + 1 < k
-      → strainFrom R (settings (putObject k o b)) (putObject k o b) vs' j ≡ strainFrom R (settings b) b vs j
-  unfolding strainFrom
-  strains-kept k o r v b a vs vs' h j q =
-      ap (λ s. strains (deltaAt R s (object (putObject k o b))) (row 5 vs') j) (settings-same R L k o r v b a) ∙
-      strain-local R L (settings b) (object (putObject k o b)) (object b) (row 5 vs') (row 5 vs) j
-      (λ i x. object-same R L k o r v b a i (omega (arith, a .below)) (λ e. omega arith))
-      (λ i x y. h i (omega arith))
+-- an accepted replacement, by what it borrows
+module _ (k : ℕ) (o : List ℕ) (t u : Borrowed) (st : State) (a : Taken (st .chart) k o)
+    (r : Roomy (length (contents t (st .records))) (length (contents u (st .values))) (count (st .chart))) where
+  abbrev b' : List ℕ
+  b' = putObject k o (st .chart)
 
-  -- an accepted replacement, by what it borrows
-  module _ (k : ℕ) (o : List ℕ) (t u : Borrowed) (st : Opened)
-      (a : Accepted R k o (length (contents t (st .records))) (length (contents u (st .values))) (st .chart)) where
-    b' : List ℕ
-    b' = putObject k o (st .chart)
+  same-n : count b' ≡ count (st .chart)
+  same-n = count-same k o (st .chart) a
 
-    rs' : List Float
-    rs' = editRecords R (settings b') b' k (contents t (st .records))
+  abbrev rs' : List Float
+  rs' = editRecords (settingsOf b') b' k (contents t (st .records))
 
-    vs' : List Float
-    vs' = editValues R (settings b') b' k rs' (contents u (st .values))
+  abbrev vs' : List Float
+  vs' = editValues (settingsOf b') b' k rs' (contents u (st .values))
 
-    record-kept : (j : ℕ) → (k ≤ j → j ≤ k + 2 → ⊥) → row 16 rs' j ≡ row 16 (contents t (st .records)) j
-    unfolding rs' b'
-    record-kept =
-        edit-record-kept R L (settings (putObject k o (st .chart))) k (st .chart) (putObject k o (st .chart)) (contents t (st .records)) (contents u (st .values))
-        (a .records) (a .values) (a .below) (count-same R L k o _ _ (st .chart) a) (object-same R L k o _ _ (st .chart) a)
+  record-kept : (j : ℕ) → (k ≤ j → j ≤ k + 2 → ⊥) → row recordWidth (tableAfter t rs' (st .records)) j ≡ row recordWidth (st .records) j
+  unfolding editRecords recordsStart recordsMade
+  record-kept j d =
+      row-after recordWidth (freshRow (settingsOf b') b') (record-width (settingsOf b') b') (max 1 k) (min (k + 3) (count b') - max 1 k) (st .records) j
+      (λ x y. d (omega arith) (omega arith)) t (λ z. omega (arith, same-n, r .records))
 
-    value-kept : (j : ℕ) → (k ≤ j + 1 → j ≤ k + 33 → ⊥) → row 5 vs' j ≡ row 5 (contents u (st .values)) j
-    unfolding vs' rs' b'
-    value-kept =
-        edit-value-kept R L (settings (putObject k o (st .chart))) k (st .chart) (putObject k o (st .chart)) (contents t (st .records)) (contents u (st .values))
-        (a .records) (a .values) (a .below) (count-same R L k o _ _ (st .chart) a) (object-same R L k o _ _ (st .chart) a)
+  value-kept : (j : ℕ) → (k ≤ j + 1 → j ≤ k + 33 → ⊥) → row valueWidth (tableAfter u vs' (st .values)) j ≡ row valueWidth (st .values) j
+  unfolding editValues valuesStart valuesMade
+  value-kept j d =
+      row-after valueWidth (valuesFrom (settingsOf b') b' rs') (value-width (settingsOf b') b' rs') (max 1 (k - 1)) (min (k + 34) (count b') - max 1 (k - 1)) (st .values) j
+      (λ x y. d (omega arith) (omega arith)) u (λ z. omega (arith, same-n, r .values))
 
-    edited-frame : Frame R k st (stateAfter t u (execute R (replace k o) (st .chart) (contents t (st .records)) (contents u (st .values))) st)
-    unfolding execute stateAfter vs' rs' b'
-    edited-frame =
-        record {
-          records-before = λ j h. own-row 16 t (st .records) rs' j (record-kept j (λ x y. omega arith));
-          records-after = λ j h. own-row 16 t (st .records) rs' j (record-kept j (λ x y. omega arith));
-          values-before = λ j h. own-row 5 u (st .values) vs' j (value-kept j (λ x y. omega arith));
-          values-after = λ j h. own-row 5 u (st .values) vs' j (value-kept j (λ x y. omega arith));
-          strains-before = strains-kept k o _ _ (st .chart) a (st .values) (tableAfter u vs' (st .values))
-              (λ j h. own-row 5 u (st .values) vs' j (value-kept j (λ x y. omega arith)));
-          afresh = afresh-frame R L k o _ _ (st .chart) a;
-        }
+  strain-kept : (j : ℕ) → j + 1 < k
+      → strainsFrom (settingsOf b') b' (tableAfter u vs' (st .values)) j ≡ strainsFrom (settingsOf (st .chart)) (st .chart) (st .values) j
+  unfolding strainsFrom
+  strain-kept j h =
+      ap (λ (s : Settings). strains (deltaAt b' (layoutOf b') (s .«clock_rate»)) (row valueWidth (tableAfter u vs' (st .values))) j) (settings-same k o (st .chart) a)
+      ∙ strain-local (settingsOf (st .chart)) b' (st .chart) (row valueWidth (tableAfter u vs' (st .values))) (row valueWidth (st .values)) j
+      (λ i x. object-same k o (st .chart) a i (λ e. omega arith))
+      (λ i x y. value-kept i (λ c d. omega arith))
 
-  refused-frame : (k : ℕ) (x : Met) (t u : Borrowed) (st : Opened)
-      → Frame R k st (stateAfter t u (refuse (st .chart) (contents t (st .records)) (contents u (st .values)) x) st)
-  unfolding stateAfter contents tableAfter refuse
-  refused-frame k x own own st = frame-refl k st
-  refused-frame k x own (foreign vs) st = frame-refl k st
-  refused-frame k x (foreign rs) own st = frame-refl k st
-  refused-frame k x (foreign rs) (foreign vs) st = frame-refl k st
+  edited-frame : let c : Call = record { operation = replace k o; records = t; values = u } in Frame k st (stateAfter c (edited k o (lent c st)) st)
+  unfolding edited lent stateAfter
+  edited-frame =
+      record {
+        records-before = λ j h. record-kept j (λ x y. omega arith);
+        records-after = λ j h. record-kept j (λ x y. omega arith);
+        values-before = λ j h. value-kept j (λ x y. omega arith);
+        values-after = λ j h. value-kept j (λ x y. omega arith);
+        strains-before = strain-kept;
+        afresh = afresh-frame k o (st .chart) a;
+      }
 
-  -- a replacement at place k, accepted or refused, whatever tables it borrows
-  pub frame : (k : ℕ) (o : List ℕ) (t u : Borrowed) (st : Opened)
-      → Frame R k st (perform R (record { operation = replace k o; records = t; values = u }) st .1)
-  unfolding perform outcomeIn outcome unless
-  frame k o t u st = go met refl
-    where
-      met : Option Met
-      met = refusal R (replace k o) (length (contents t (st .records))) (length (contents u (st .values))) (st .chart)
+-- a replacement at place k, accepted or refused
+pub frame : (k : ℕ) (o : List ℕ) (t u : Borrowed) (st : State) → Frame k st (perform (record { operation = replace k o; records = t; values = u }) st .1)
+unfolding verdictIn lent execute
+frame k o t u st = go (verdictIn (replace k o) (lent c st)) refl
+  where
+    c : Call
+    c = record { operation = replace k o; records = t; values = u }
 
-      next : Option Met → Opened
-      next q = stateAfter t u (unless q
-          (refuse (st .chart) (contents t (st .records)) (contents u (st .values)))
-          (execute R (replace k o) (st .chart) (contents t (st .records)) (contents u (st .values)))) st
-
-      go : (q : Option Met) → met ≡ q → Frame R k st (next met)
-      go none e =
-          subst⁻¹ (λ (q : Option Met). Frame R k st (next q)) e
-          (edited-frame k o t u st (accepted-replace R k o (length (contents t (st .records))) (length (contents u (st .values))) (st .chart) e))
-      go (some x) e = subst⁻¹ (λ (q : Option Met). Frame R k st (next q)) e (refused-frame k x t u st)
+    go : (v : Verdict) → verdictIn (replace k o) (lent c st) ≡ v → Frame k st (perform c st .1)
+    go Accepted e =
+        let (a, r) = accepted-replace k o (length (contents t (st .records))) (length (contents u (st .values))) (st .chart) e in
+        subst⁻¹ (Frame k st) (ap (λ x. x .1) (perform-accepted c st e)) (edited-frame k o t u st a r)
+    go (Refused q) e = subst⁻¹ (Frame k st) (ap (λ x. x .1) (perform-refused c st q e)) (frame-refl k st)

@@ -1,72 +1,98 @@
 -- What the plain chart keeps of the chart that was opened. Assumes nothing.
-use mathlib.Core.Path.{_≡_, refl, sym, ap, _∙_, subst}
+use mathlib.Core.Path.{_≡_, refl, ap, _∙_}
 use mathlib.Core.List.{List, [], _∷_, map}
-use mathlib.Core.Bool.{Bool, true, false, cond}
-use mathlib.Core.Option.{Option, none, some}
-use Prim.Native.Nat.{ℕ, _+_, _*_, _≤_}
+use Prim.Native.Nat.{ℕ, zero, suc, _+_, _-_, _≤_, _<_}
+use native.Mathlib.Decide.{decLt}
 use native.Mathlib.Omega.{arith}
-use lib.Dec.{eqb}
-use lib.ListN.{length, drop}
-use borrow.Author.Tests.{eqb-true, eqb-false}
+use lib.ListN.{length, drop, set}
+use Rattle.objects.specs.Objects.{Holds}
+use Rattle.objects.specs.declared.Layout.{Layout}
+use Rattle.opening.specs.Header.{layoutOf}
+use Rattle.opening.specs.Conditions.{ifAccepted}
+use Rattle.opening.specs.Accepted.{header-ok}
+use Rattle.opening.specs.declared.Verdict.{Verdict}
+use Rattle.opening.specs.declared.Verdict.the-variants.{Accepted, Refused}
+use Rattle.opening.proofs.Header.{holds}
+use Rattle.replacing.specs.Replace.{objectBytes, putObject}
+use Rattle.replacing.specs.Accepted.{Taken}
+use Rattle.replacing.specs.Replaced as R
 use Rattle.calls.specs.Simulation.{answers, after}
-use Rattle.objects.specs.Limits.{headerSize, objectSize}
-use Rattle.calls.specs.Rules.{Rules}
-use Rattle.calls.specs.Conditions.{objectBytes, putObject, Met, Operation, replace, readRecord, readValue, totals, refusal}
-use Rattle.calls.specs.Calls.{Call, refused, size, unless, compute, question, plain}
-use Rattle.calls.specs.Statement.{Edit, holds, isReplaced, withEdit, accepted, Kept}
-use Rattle.calls.specs.Laws.{Laws}
-use Rattle.calls.proofs.Refusals.{Accepted, accepted-replace, c1-met}
-use Rattle.calls.proofs.Replacing.{count-same, header-kept, rest-kept, place-put, place-kept}
+use Rattle.calls.specs.Tables.{lengthOf}
+use Rattle.calls.specs.Afresh.{count}
+use Rattle.calls.specs.Conditions.{Operation, replace, readRecord, readValues, figure, refusal}
+use Rattle.calls.specs.Calls.{refused, Call, question, compute, plain}
+use Rattle.calls.specs.Statement.{Edit, put, blocksFrom, blocks, applied, appliedAll, isReplaced, withEdit, edits, Kept}
+use Rattle.calls.proofs.Refusals.{accepted-replace}
+use Rattle.calls.proofs.Replacing.{layout-same, count-same}
 
-module _ (R : Rules) (L : Laws R) where
-  open Rules R using (count)
+-- ---- The objects of a chart with one of them put anew
+
+module _ (b b' : List ℕ) (k : ℕ) (o : List ℕ) (here : objectBytes b' k ≡ o) (elsewhere : (j : ℕ) → (j ≡ k → ⊥) → objectBytes b' j ≡ objectBytes b j) where
+  behind : (j n : ℕ) → k < j → blocksFrom b' j n ≡ blocksFrom b j n
+  unfolding blocksFrom
+  behind j zero h = refl
+  behind j (suc n) h = λ t. elsewhere j (λ e. omega arith) t ∷ behind (suc j) n (omega arith) t
+
+  from : (j n : ℕ) → j ≤ k → k < j + n → blocksFrom b' j n ≡ set (blocksFrom b j n) (k - j) o
+  unfolding blocksFrom
+  from j zero h l = absurd (omega arith)
+  from j (suc n) h l = go (λ m. from (suc j) n m (omega arith)) (decLt j k)
+    where
+      go : (suc j ≤ k → blocksFrom b' (suc j) n ≡ set (blocksFrom b (suc j) n) (k - suc j) o) → Dec (j < k)
+          → objectBytes b' j ∷ blocksFrom b' (suc j) n ≡ set (objectBytes b j ∷ blocksFrom b (suc j) n) (k - j) o
+      go rest (yes m) =
+          let e : k - j ≡ suc (k - suc j) = omega arith in
+          rw e ((λ t. elsewhere j (λ q. omega arith) t ∷ rest (omega arith) t))
+      go rest (no m) =
+          let e : k - j ≡ 0 = omega arith in
+          let q : j ≡ k = omega arith in
+          rw e ((λ t. (ap (objectBytes b') q ∙ here) t ∷ behind (suc j) n (omega arith) t))
+
+module _ (k : ℕ) (o b : List ℕ) (a : Taken b k o) where
+  held : Holds b (layoutOf b)
+  held = holds b (header-ok b (a .opens))
+
+  blocks-put : blocks (putObject k o b) ≡ set (blocks b) k o
+  unfolding blocks
+  blocks-put =
+      ap (blocksFrom (putObject k o b) 0) (count-same k o b a)
+      ∙ (from b (putObject k o b) k o (R.place-put b k o held (a .below) (a .long)) (R.place-kept b k o held (a .below) (a .long)) 0 (count b) (omega arith) (omega (arith, a .below))
+      ∙ ap (λ (i : ℕ). set (blocksFrom b 0 (count b)) i o) (omega arith))
 
   -- an accepted replacement, and then the rest of the list
-  put-kept : (k : ℕ) (o : List ℕ) (r v : ℕ) (b : List ℕ) (a : Accepted R k o r v b) (es : List Edit) (b' : List ℕ)
-      → Kept R (putObject k o b) es b' → Kept R b (record { place = k; bytes = o } ∷ es) b'
-  unfolding holds
-  put-kept k o r v b a es b' h =
+  put-kept : (es : List Edit) (b' : List ℕ) → Kept (putObject k o b) es b' → Kept b (put k o ∷ es) b'
+  unfolding appliedAll applied
+  put-kept es b' h =
       record {
-        header = h .header ∙ header-kept k o b (count b) (a .below) (a .size) fits;
-        places = λ j q. h .places j (omega (arith, same)) ∙ ap (holds j es) (at j (eqb k j) refl);
-        rest = subst (λ (n : ℕ). drop (headerSize + objectSize * n) b' ≡ drop (headerSize + objectSize * n) (putObject k o b)) same (h .rest)
-            ∙ rest-kept k o b (count b) (a .below) (a .size) fits;
+        header = h .header ∙ R.header-kept b k o held (a .below) (a .long);
+        objects = h .objects ∙ ap (appliedAll es) blocks-put;
+        rest = h .rest
+            ∙ (ap (λ (lay : Layout). drop (lay .«nested_at») (putObject k o b)) (layout-same k o b a) ∙ R.rest-kept b k o held (a .below) (a .long));
       }
-    where
-      fits : headerSize + objectSize * count b ≤ length b
-      fits = L .shape b (c1-met R b (a .opens))
 
-      same : count (putObject k o b) ≡ count b
-      same = count-same R L k o r v b a
+-- any call, and then the rest of the list
+call-kept : (a : Operation) (r v : ℕ) (b : List ℕ) (q : Verdict) → refusal a r v b ≡ q → (es : List Edit) (b' : List ℕ)
+    → Kept (ifAccepted q (compute a b) (λ x. (refused x, b)) .1) es b'
+    → Kept b (withEdit a (ifAccepted q (compute a b) (λ x. (refused x, b)) .0) es) b'
+unfolding ifAccepted compute withEdit isReplaced
+call-kept (replace k o) r v b Accepted e es b' h = put-kept k o b (accepted-replace k o r v b e .0) es b' h
+call-kept (replace k o) r v b (Refused x) e es b' h = h
+call-kept (readRecord k) r v b Accepted e es b' h = h
+call-kept (readRecord k) r v b (Refused x) e es b' h = h
+call-kept (readValues k) r v b Accepted e es b' h = h
+call-kept (readValues k) r v b (Refused x) e es b' h = h
+call-kept (figure f l) r v b Accepted e es b' h = h
+call-kept (figure f l) r v b (Refused x) e es b' h = h
 
-      at : (j : ℕ) (t : Bool) → eqb k j ≡ t → objectBytes (putObject k o b) j ≡ cond (eqb k j) o (objectBytes b j)
-      at j true e = rw e (subst (λ (i : ℕ). objectBytes (putObject k o b) i ≡ o) (eqb-true k j e) (place-put k o b (count b) (a .below) (a .size) fits))
-      at j false e = rw e (place-kept k o b (count b) (a .below) (a .size) fits j (λ p. eqb-false k j e (sym p)))
+none-kept : (b : List ℕ) → Kept b [] b
+unfolding appliedAll
+none-kept b = record { header = refl; objects = refl; rest = refl }
 
-  -- any call, and then the rest of the list
-  call-kept : (a : Operation) (r v : ℕ) (b : List ℕ) (q : Option Met) → refusal R a r v b ≡ q → (es : List Edit) (b' : List ℕ)
-      → Kept R (unless q (λ x. (refused x, b)) (compute R a b) .1) es b'
-      → Kept R b (withEdit a (unless q (λ x. (refused x, b)) (compute R a b) .0) es) b'
-  unfolding unless compute withEdit isReplaced
-  call-kept (replace k o) r v b none e es b' h = put-kept k o r v b (accepted-replace R k o r v b e) es b' h
-  call-kept (replace k o) r v b (some x) e es b' h = h
-  call-kept (readRecord k) r v b none e es b' h = h
-  call-kept (readRecord k) r v b (some x) e es b' h = h
-  call-kept (readValue k) r v b none e es b' h = h
-  call-kept (readValue k) r v b (some x) e es b' h = h
-  call-kept (totals m n s f) r v b none e es b' h = h
-  call-kept (totals m n s f) r v b (some x) e es b' h = h
-
-  none-kept : (b : List ℕ) → Kept R b [] b
-  unfolding holds
-  none-kept b = record { header = refl; places = λ j q. refl; rest = refl }
-
-  pub plain-kept : (r v : ℕ) (cs : List Call) (b : List ℕ)
-      → Kept R b (accepted cs (answers (plain R) (map (question r v) cs) b)) (after (plain R) (map (question r v) cs) b)
-  unfolding answers after accepted plain question
-  plain-kept r v [] b = none-kept b
-  plain-kept r v (c ∷ cs) b =
-      call-kept (c .operation) (size (c .records) r) (size (c .values) v) b
-      (refusal R (c .operation) (size (c .records) r) (size (c .values) v) b) refl
-      (accepted cs (answers (plain R) (map (question r v) cs) (plain R (question r v c) b .1))) (after (plain R) (map (question r v) cs) (plain R (question r v c) b .1))
-      (plain-kept r v cs (plain R (question r v c) b .1))
+pub plain-kept : (r v : ℕ) (cs : List Call) (b : List ℕ) → Kept b (edits cs (answers plain (map (question r v) cs) b)) (after plain (map (question r v) cs) b)
+unfolding answers after edits plain question
+plain-kept r v [] b = none-kept b
+plain-kept r v (c ∷ cs) b =
+    call-kept (c .operation) (lengthOf (c .records) r) (lengthOf (c .values) v) b
+    (refusal (c .operation) (lengthOf (c .records) r) (lengthOf (c .values) v) b) refl
+    (edits cs (answers plain (map (question r v) cs) (plain (question r v c) b .1))) (after plain (map (question r v) cs) (plain (question r v c) b .1))
+    (plain-kept r v cs (plain (question r v c) b .1))

@@ -1,118 +1,166 @@
 -- The place that a refusal returns. Assumes nothing.
-use mathlib.Core.Path.{_≡_, sym, ap, _∙_}
+use mathlib.Core.Path.{_≡_, refl, sym, ap, _∙_, subst, subst⁻¹}
 use mathlib.Core.List.{List, [], _∷_, _++_}
-use mathlib.Core.Bool.{Bool, true, false}
-use mathlib.Core.Option.{Option, none, some}
-use Prim.Native.Nat.{ℕ, _+_}
+use mathlib.Core.Bool.{Bool, true, false, cond, not, _&&_}
+use Prim.Native.Nat.{ℕ, zero, suc, _+_, _/_, _≤_, _<_}
 use native.Mathlib.Omega.{arith}
-use Rattle.calls.specs.Rules.{Rules}
-use Rattle.calls.specs.Conditions.{Met, replace, readRecord, readValue, totals, putObject, firstOf, lowest, found, met, bodyConditions, chartConditions, opening, refusal}
-use Rattle.calls.specs.Statement.{Placed, ReplacePlaced, of-chart, of-length, of-result}
-use Rattle.calls.proofs.Refusals.{no-some, some-same, lowest-found}
+use native.Mathlib.Decide.{ℕ-discrete}
+use lib.Dec.{ltb, eqb}
+use lib.ListN.{length}
+use borrow.Author.Tests.{ltb-true, ltb-false, eqb-true, eqb-false}
+use Rattle.objects.specs.Search.{firstFrom, firstBelow}
+use Rattle.objects.proofs.Search.{clean}
+use Rattle.objects.specs.Objects.{badFields, falls}
+use Rattle.entries.specs.Entries.{badEntries}
+use Rattle.opening.specs.Header.{layoutOf, headerOk, settingsOf, settingsOk, tooLong}
+use Rattle.opening.specs.Conditions.{refusalNumber, refusalPlace, refuseIf, refuseAt, firstOf, bodyConditions, bodyOf, chartConditions, tooFew, openConditions, openVerdict}
+use Rattle.opening.specs.Accepted.{first-refused, first-passed, refuses}
+use Rattle.opening.specs.declared.Refusal.{Refusal}
+use Rattle.opening.specs.declared.Refusal.the-variants.{Header, Setting, Object, Entries, Order, Length, Table, Place}
+use Rattle.opening.specs.declared.Verdict.{Verdict}
+use Rattle.opening.specs.declared.Verdict.the-variants.{Accepted, Refused}
+use Rattle.replacing.specs.Replace.{putObject, placeConditions, replaceConditions, replaceVerdict}
+use Rattle.calls.specs.Tables.{entriesOf}
+use Rattle.calls.specs.Afresh.{Figure, count}
+use Rattle.calls.specs.Conditions.{Lengths, scratchShort, replace, readRecord, readValues, figure, readConditions, readVerdict, figureConditions, opening, refusal}
+use Rattle.calls.specs.Statement.{Lowest, Placed, ReplacePlaced, of-chart, of-place, of-length, of-result}
+
+pub same-refusal : {q r : Refusal} → Refused q ≡ Refused r → q ≡ r
+same-refusal e = cc
 
 -- P holds of every refusal that a list of conditions can give
-module _ (P : Met → Type 0) where
-  abbrev Each : List (Option Met) → Type 0
+module _ (P : Refusal → Type 0) where
+  abbrev Each : List Verdict → Type 0
   Each [] = Unit {0}
-  Each (o ∷ os) = ((x : Met) → o ≡ some x → P x) × Each os
+  Each (v ∷ vs) = ((q : Refusal) → v ≡ Refused q → P q) × Each vs
 
-  first-each : (os : List (Option Met)) → Each os → (x : Met) → firstOf os ≡ some x → P x
+  first-each : (vs : List Verdict) → Each vs → (q : Refusal) → firstOf vs ≡ Refused q → P q
   unfolding firstOf
-  first-each [] h x e = no-some (sym e)
-  first-each (none ∷ os) h x e = first-each os (h .1) x e
-  first-each (some y ∷ os) h x e = h .0 x e
+  first-each [] h q e = absurd (refuses (sym e))
+  first-each (Accepted ∷ vs) h q e = first-each vs (h .1) q e
+  first-each (Refused r ∷ vs) h q e = h .0 q e
 
-  each-append : (os us : List (Option Met)) → Each os → Each us → Each (os ++ us)
-  each-append [] us h g = g
-  each-append (o ∷ os) us h g = (h .0, each-append os us (h .1) g)
+  each-append : (us vs : List Verdict) → Each us → Each vs → Each (us ++ vs)
+  each-append [] vs h g = g
+  each-append (u ∷ us) vs h g = (h .0, each-append us vs (h .1) g)
 
-met-some : (n p : ℕ) (t : Bool) (x : Met) → met n p t ≡ some x → (x .number ≡ n) × (x .place ≡ p)
-unfolding met
-met-some n p true x e = let q : record { number = n; place = p } ≡ x = some-same e in (ap (λ y. y .number) (sym q), ap (λ y. y .place) (sym q))
-met-some n p false x e = no-some (sym e)
+  each-if : (test : Bool) (r : Refusal) → P r → (q : Refusal) → refuseIf test r ≡ Refused q → P q
+  each-if true r p q e = subst P (same-refusal e) p
+  each-if false r p q e = absurd (refuses (sym e))
 
-found-some : (n : ℕ) (o : Option ℕ) (x : Met) → found n o ≡ some x → (x .number ≡ n) × (o ≡ some (x .place))
-unfolding found
-found-some n none x e = no-some (sym e)
-found-some n (some p) x e =
-    let q : record { number = n; place = p } ≡ x = some-same e in (ap (λ y. y .number) (sym q), ap (λ y. some (y .place)) q)
+-- ---- The search for the lowest place stops at a place where the test holds, or past the last
 
-module _ (R : Rules) where
-  open Rules R using (count, c1, c2, c3, c4, c5, c6)
+offends-step : (test : ℕ → Bool) (k i : ℕ) (t : Bool) → test i ≡ t → cond t i (firstFrom test k (suc i)) < i + suc k
+    → (firstFrom test k (suc i) < suc i + k → test (firstFrom test k (suc i)) ≡ true) → test (cond t i (firstFrom test k (suc i))) ≡ true
+offends-step test k i true e h r = e
+offends-step test k i false e h r = r (omega arith)
 
-  -- a condition other than 3, 4 and 5, with place 0
-  zero-placed : (b : List ℕ) (n : ℕ) (t : Bool) → (n ≡ 3 → ⊥) → (n ≡ 4 → ⊥) → (n ≡ 5 → ⊥) → (x : Met) → met n 0 t ≡ some x → Placed R b x
-  zero-placed b n t a c d x e =
-      let (m, p) = met-some n 0 t x e in
-      record { three = λ q. absurd (a (sym m ∙ q)); four = λ q. absurd (c (sym m ∙ q)); five = λ q. absurd (d (sym m ∙ q)); others = λ q r s. p }
+offends-from : (test : ℕ → Bool) (k i : ℕ) → firstFrom test k i < i + k → test (firstFrom test k i) ≡ true
+unfolding firstFrom
+offends-from test zero i h = absurd (omega arith)
+offends-from test (suc k) i h = offends-step test k i (test i) refl h (offends-from test k (suc i))
 
-  three-placed : (b : List ℕ) (x : Met) → found 3 (lowest (c3 b) (count b)) ≡ some x → Placed R b x
-  three-placed b x e =
-      let (m, p) = found-some 3 (lowest (c3 b) (count b)) x e in
-      record { three = λ q. lowest-found (c3 b) (count b) (x .place) p; four = λ q. absurd (omega arith); five = λ q. absurd (omega arith); others = λ q r s. absurd (q m) }
+offends : (test : ℕ → Bool) (n : ℕ) → firstBelow test n < n → test (firstBelow test n) ≡ true
+unfolding firstBelow
+offends test n h = offends-from test n 0 (omega arith)
 
-  four-placed : (b : List ℕ) (x : Met) → found 4 (lowest (c4 b) (count b)) ≡ some x → Placed R b x
-  four-placed b x e =
-      let (m, p) = found-some 4 (lowest (c4 b) (count b)) x e in
-      record { three = λ q. absurd (omega arith); four = λ q. lowest-found (c4 b) (count b) (x .place) p; five = λ q. absurd (omega arith); others = λ q r s. absurd (r m) }
+each-at : (P : Refusal → Type 0) (r : ℕ → Refusal) (test : ℕ → Bool) (n : ℕ) → ((j : ℕ) → Lowest test n j → P (r j)) → (q : Refusal) → refuseAt r test n ≡ Refused q → P q
+each-at P r test n h q e = go (ltb (firstBelow test n) n) refl e
+  where
+    go : (t : Bool) → ltb (firstBelow test n) n ≡ t → refuseIf t (r (firstBelow test n)) ≡ Refused q → P q
+    go true l f =
+        let b : firstBelow test n < n = ltb-true (firstBelow test n) n l in
+        subst P (same-refusal f) (h (firstBelow test n) (record { below = b; offends = offends test n b; none-lower = λ i g. clean test n i (omega arith) }))
+    go false l f = absurd (refuses (sym f))
 
-  five-placed : (b : List ℕ) (x : Met) → found 5 (lowest (c5 b) (count b)) ≡ some x → Placed R b x
-  five-placed b x e =
-      let (m, p) = found-some 5 (lowest (c5 b) (count b)) x e in
-      record { three = λ q. absurd (omega arith); four = λ q. absurd (omega arith); five = λ q. lowest-found (c5 b) (count b) (x .place) p; others = λ q r s. absurd (s m) }
+-- ---- Conditions 1 to 7
 
-  body-placed : (b : List ℕ) → Each (Placed R b) (bodyConditions R b)
-  unfolding bodyConditions
-  body-placed b = (three-placed b, (four-placed b, (five-placed b, (zero-placed b 6 (c6 b) (λ e. omega arith) (λ e. omega arith) (λ e. omega arith), tt))))
+body-placed : (b : List ℕ) → Each (Placed b) (bodyOf b)
+unfolding bodyConditions
+body-placed b = (
+  each-at (Placed b) Object (badFields b (layoutOf b)) (count b) (λ j l. l),
+  (
+    each-at (Placed b) Entries (badEntries b (layoutOf b)) (count b) (λ j l. l),
+    (each-at (Placed b) Order (falls b (layoutOf b)) (count b) (λ j l. l), (each-if (Placed b) (tooLong b (layoutOf b) (settingsOf b .«clock_rate»)) Length tt, tt)),
+  ),
+)
 
-  chart-placed : (b : List ℕ) → Each (Placed R b) (chartConditions R b)
-  unfolding chartConditions
-  chart-placed b = (
-    zero-placed b 1 (c1 b) (λ e. omega arith) (λ e. omega arith) (λ e. omega arith),
-    (zero-placed b 2 (c2 b) (λ e. omega arith) (λ e. omega arith) (λ e. omega arith), body-placed b),
-  )
+chart-placed : (b : List ℕ) → Each (Placed b) (chartConditions b)
+unfolding chartConditions
+chart-placed b = (each-if (Placed b) (not (headerOk b)) Header tt, (each-if (Placed b) (not (settingsOk (settingsOf b))) Setting tt, body-placed b))
 
-  seven-placed : (b : List ℕ) (t : Bool) (x : Met) → met 7 0 t ≡ some x → Placed R b x
-  seven-placed b t = zero-placed b 7 t (λ e. omega arith) (λ e. omega arith) (λ e. omega arith)
+few-placed : (b : List ℕ) (entries : ℕ) (q : Refusal) → tooFew entries (count b) ≡ Refused q → Placed b q
+few-placed b entries = each-if (Placed b) (ltb entries (count b)) Table tt
 
-  eight-placed : (b : List ℕ) (t : Bool) (x : Met) → met 8 0 t ≡ some x → Placed R b x
-  eight-placed b t = zero-placed b 8 t (λ e. omega arith) (λ e. omega arith) (λ e. omega arith)
+open-placed : (b : List ℕ) (entries : ℕ) (q : Refusal) → openVerdict b entries ≡ Refused q → Placed b q
+unfolding openConditions
+open-placed b entries = first-each (Placed b) _ (each-append (Placed b) (chartConditions b) _ (chart-placed b) (few-placed b entries, tt))
 
-  pub opening-placed : (r v : ℕ) (b : List ℕ) (x : Met) → opening R r v b ≡ some x → Placed R b x
-  unfolding opening
-  opening-placed r v b = first-each (Placed R b) _ (each-append (Placed R b) (chartConditions R b) _ (chart-placed b) (seven-placed b _, tt))
+pub opening-placed : (r v : ℕ) (b : List ℕ) (q : Refusal) → opening r v b ≡ Refused q → Placed b q
+opening-placed r v b = open-placed b (entriesOf r v)
 
-  pub totals-placed : (m n s f r v : ℕ) (b : List ℕ) (x : Met) → refusal R (totals m n s f) r v b ≡ some x → Placed R b x
-  unfolding refusal
-  totals-placed m n s f r v b = first-each (Placed R b) _ (each-append (Placed R b) (chartConditions R b) _ (chart-placed b) (seven-placed b _, tt))
+pub figure-placed : (f : Figure) (l : Lengths) (r v : ℕ) (b : List ℕ) (q : Refusal) → refusal (figure f l) r v b ≡ Refused q → Placed b q
+unfolding refusal figureConditions
+figure-placed f l r v b =
+    first-each (Placed b) _ (each-append (Placed b) (chartConditions b) _ (chart-placed b) (few-placed b (v / 5), (each-if (Placed b) (scratchShort l) Table tt, tt)))
 
-  -- of a reading: 1, 7 and 8, with place 0
-  pub record-placed : (k r v : ℕ) (b : List ℕ) (x : Met) → refusal R (readRecord k) r v b ≡ some x → x .place ≡ 0
-  unfolding refusal
-  record-placed k r v b = first-each (λ x. x .place ≡ 0) _
-      ((λ x e. met-some 1 0 _ x e .1), ((λ x e. met-some 7 0 _ x e .1), ((λ x e. met-some 8 0 _ x e .1), ((λ x e. met-some 8 0 _ x e .1), tt))))
+-- ---- A reading: 1, 7 and 8, with place 0
 
-  pub value-placed : (k r v : ℕ) (b : List ℕ) (x : Met) → refusal R (readValue k) r v b ≡ some x → x .place ≡ 0
-  unfolding refusal
-  value-placed k r v b = first-each (λ x. x .place ≡ 0) _
-      ((λ x e. met-some 1 0 _ x e .1), ((λ x e. met-some 7 0 _ x e .1), ((λ x e. met-some 8 0 _ x e .1), ((λ x e. met-some 8 0 _ x e .1), tt))))
+read-placed : (b : List ℕ) (entries k : ℕ) (q : Refusal) → readVerdict b entries k ≡ Refused q → refusalPlace q ≡ 0
+unfolding readConditions
+read-placed b entries k =
+    let P : Refusal → Type 0 = λ q. refusalPlace q ≡ 0 in
+    first-each P _ (each-if P (not (headerOk b)) Header refl, (each-if P (ltb entries (count b)) Table refl, (each-if P (not (ltb 0 k && ltb k (count b))) Place refl, tt)))
 
-  each-map : (P Q : Met → Type 0) (os : List (Option Met)) → ((x : Met) → P x → Q x) → Each P os → Each Q os
-  each-map P Q [] f h = tt
-  each-map P Q (o ∷ os) f h = ((λ x e. f x (h .0 x e)), each-map P Q os f (h .1))
+pub record-placed : (k r v : ℕ) (b : List ℕ) (q : Refusal) → refusal (readRecord k) r v b ≡ Refused q → refusalPlace q ≡ 0
+unfolding refusal
+record-placed k r v b = read-placed b (r / 16) k
 
-  pub replace-placed : (k : ℕ) (o : List ℕ) (r v : ℕ) (b : List ℕ) (x : Met) → refusal R (replace k o) r v b ≡ some x → ReplacePlaced R k b (putObject k o b) x
-  unfolding refusal
-  replace-placed k o r v b =
-      let b' : List ℕ = putObject k o b in
-      first-each (ReplacePlaced R k b b') _
-      (each-append (ReplacePlaced R k b b') (chartConditions R b) _ (each-map (Placed R b) (ReplacePlaced R k b b') (chartConditions R b) (λ x p. of-chart p) (chart-placed b)) (
-        (λ x e. of-chart (seven-placed b _ x e)),
-        (
-          (λ x e. of-chart (eight-placed b _ x e)),
-          (
-            (λ x e. of-length (met-some 3 k _ x e .0) (met-some 3 k _ x e .1)),
-            each-map (Placed R b') (ReplacePlaced R k b b') (bodyConditions R b') (λ x p. of-result p) (body-placed b'),
-          ),
-        ),
-      ))
+pub values-placed : (k r v : ℕ) (b : List ℕ) (q : Refusal) → refusal (readValues k) r v b ≡ Refused q → refusalPlace q ≡ 0
+unfolding refusal
+values-placed k r v b = read-placed b (v / 5) k
+
+-- ---- A replacement
+
+module _ (k : ℕ) (o : List ℕ) (r v : ℕ) (b : List ℕ) (q : Refusal) where
+  at-place : opening r v b ≡ Accepted → firstOf (placeConditions b k o) ≡ Refused q → ReplacePlaced k o r v b q
+  unfolding placeConditions firstOf
+  at-place a e = go (ltb k (count b)) refl (eqb (length o) (layoutOf b .«object_size»)) refl e
+    where
+      go : (s : Bool) → ltb k (count b) ≡ s → (t : Bool) → eqb (length o) (layoutOf b .«object_size») ≡ t
+          → firstOf (refuseIf (not s) Place ∷ refuseIf (not t) (Object k) ∷ bodyOf (putObject k o b)) ≡ Refused q → ReplacePlaced k o r v b q
+      go false l t m f = of-place a (ltb-false k (count b) l) (sym (same-refusal f))
+      go true l false m f = of-length a (ltb-true k (count b) l) (eqb-false (length o) (layoutOf b .«object_size») m) (sym (same-refusal f))
+      go true l true m f =
+          of-result a (ltb-true k (count b) l) (eqb-true (length o) (layoutOf b .«object_size») m) (first-each (Placed (putObject k o b)) (bodyOf (putObject k o b)) (body-placed (putObject k o b)) q f)
+
+  pub replace-placed : refusal (replace k o) r v b ≡ Refused q → ReplacePlaced k o r v b q
+  unfolding refusal replaceConditions
+  replace-placed e = go (opening r v b) refl
+    where
+      go : (w : Verdict) → opening r v b ≡ w → ReplacePlaced k o r v b q
+      go Accepted a = at-place a (sym (first-passed (openConditions b (entriesOf r v)) (placeConditions b k o) a) ∙ e)
+      go (Refused p) a =
+          let s : p ≡ q = same-refusal (sym (first-refused (openConditions b (entriesOf r v)) (placeConditions b k o) p a) ∙ e) in
+          let f : opening r v b ≡ Refused q = a ∙ ap Refused s in
+          of-chart f (opening-placed r v b q f)
+
+-- ---- Number and place tell which refusal it is
+
+named : ℕ → ℕ → Refusal
+named n p =
+    cond (eqb n 1) Header (cond (eqb n 2) Setting (cond (eqb n 3) (Object p) (cond (eqb n 4) (Entries p) (cond (eqb n 5) (Order p) (cond (eqb n 6) Length (cond (eqb n 7) Table Place))))))
+
+named-by : (q : Refusal) → named (refusalNumber q) (refusalPlace q) ≡ q
+unfolding named
+named-by Header = refl
+named-by Setting = refl
+named-by (Object i) = refl
+named-by (Entries i) = refl
+named-by (Order i) = refl
+named-by Length = refl
+named-by Table = refl
+named-by Place = refl
+
+pub refusal-told : (q q' : Refusal) → refusalNumber q ≡ refusalNumber q' → refusalPlace q ≡ refusalPlace q' → q ≡ q'
+refusal-told q q' e f = sym (named-by q) ∙ ((λ i. named (e i) (f i)) ∙ named-by q')

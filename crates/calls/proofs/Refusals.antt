@@ -1,176 +1,120 @@
--- What follows where a call meets no condition, and what the search for the lowest place finds. Assumes nothing.
+-- What follows where a call meets no condition. Assumes nothing.
 use mathlib.Core.Path.{_≡_, refl, sym, ap, _∙_}
 use mathlib.Core.Logic.{_↔_}
-use mathlib.Core.List.{List, [], _∷_, _++_}
-use mathlib.Core.Bool.{Bool, true, false, cond, _||_}
-use mathlib.Core.Option.{Option, none, some}
-use Prim.Native.Nat.{ℕ, zero, suc, _+_, _*_, _≤_, _<_}
+use mathlib.Core.List.{List, [], _∷_, _++_, append-assoc}
+use mathlib.Core.Bool.{Bool, true, false, _&&_, _||_}
+use Prim.Native.Nat.{ℕ, _+_, _*_, _/_, _≤_, _<_, min}
 use native.Mathlib.Omega.{arith}
 use lib.Dec.{ltb}
 use lib.ListN.{length}
-use borrow.Author.Tests.{ltb-true, ltb-false, eqb-true, not-false, le-ltb}
-use Rattle.objects.specs.Search.{firstFrom, firstBelow}
-use Rattle.objects.proofs.Search.{clean}
-use Rattle.objects.specs.Limits.{objectSize}
-use Rattle.calls.specs.Rules.{Rules}
-use Rattle.calls.specs.Conditions.{Met, replace, readRecord, readValue, totals, putObject, firstOf, lowest, met, bodyConditions, chartConditions, short, scratchShort, opening, refusal}
-use Rattle.calls.specs.Statement.{Lowest}
-use Rattle.calls.specs.Laws.{Opens}
-
-pub no-some : {A : Type 0} {a : A} {C : Type 0} → some a ≡ none → C
-no-some e = let z : _≡_ {A = ℕ} 0 1 = cc in absurd (omega arith)
-
-pub first-cons : (x : Option Met) (rs : List (Option Met)) → firstOf (x ∷ rs) ≡ none → (x ≡ none) × (firstOf rs ≡ none)
-unfolding firstOf
-first-cons none rs e = (refl, e)
-first-cons (some r) rs e = no-some e
-
-pub first-append : (xs ys : List (Option Met)) → firstOf (xs ++ ys) ≡ none → (firstOf xs ≡ none) × (firstOf ys ≡ none)
-unfolding firstOf
-first-append [] ys e = (refl, e)
-first-append (none ∷ xs) ys e = first-append xs ys e
-first-append (some r ∷ xs) ys e = no-some e
-
-pub first-join : (xs ys : List (Option Met)) → firstOf xs ≡ none → firstOf ys ≡ none → firstOf (xs ++ ys) ≡ none
-unfolding firstOf
-first-join [] ys p q = q
-first-join (none ∷ xs) ys p q = first-join xs ys p q
-first-join (some r ∷ xs) ys p q = no-some p
-
-pub met-none : (n p : ℕ) (t : Bool) → met n p t ≡ none → t ≡ false
-unfolding met
-met-none n p true e = no-some e
-met-none n p false e = refl
-
--- ---- The place that conditions 3, 4 and 5 return is the lowest offending one; where they return none, no place offends
-
-pub some-same : {A : Type 0} {a b : A} → some a ≡ some b → a ≡ b
-some-same e = cc
-
--- the search stops at a place where the test holds, or past the last
-offends-step : (test : ℕ → Bool) (k i : ℕ) (t : Bool) → test i ≡ t → cond t i (firstFrom test k (suc i)) < i + suc k
-    → (firstFrom test k (suc i) < suc i + k → test (firstFrom test k (suc i)) ≡ true) → test (cond t i (firstFrom test k (suc i))) ≡ true
-offends-step test k i true e h r = e
-offends-step test k i false e h r = r (omega arith)
-
-offends-from : (test : ℕ → Bool) (k i : ℕ) → firstFrom test k i < i + k → test (firstFrom test k i) ≡ true
-unfolding firstFrom
-offends-from test zero i h = absurd (omega arith)
-offends-from test (suc k) i h = offends-step test k i (test i) refl h (offends-from test k (suc i))
-
-offends : (test : ℕ → Bool) (n : ℕ) → firstBelow test n < n → test (firstBelow test n) ≡ true
-unfolding firstBelow
-offends test n h = offends-from test n 0 (omega arith)
-
-taken : (f n j : ℕ) (t : Bool) → ltb f n ≡ t → cond t (some f) none ≡ some j → (f < n) × (f ≡ j)
-taken f n j true e q = (ltb-true f n e, some-same q)
-taken f n j false e q = no-some (sym q)
-
-passed : (f n : ℕ) (t : Bool) → ltb f n ≡ t → cond t (some f) none ≡ none → n ≤ f
-passed f n true e q = no-some q
-passed f n false e q = ltb-false f n e
-
-pub lowest-found : (test : ℕ → Bool) (n j : ℕ) → lowest test n ≡ some j → Lowest test n j
-unfolding lowest
-lowest-found test n j e =
-    let (l, q) = taken (firstBelow test n) n j (ltb (firstBelow test n) n) refl e in
-    record { below = omega arith; offends = ap test (sym q) ∙ offends test n l; none-lower = λ i h. clean test n i (omega arith) }
+use borrow.Author.Tests.{ltb-true, ltb-false, le-ltb}
+use Rattle.opening.specs.Header.{layoutOf, headerOk}
+use Rattle.opening.specs.Conditions.{Opens, refuseIf, firstOf, chartConditions, tooFew, openConditions, openVerdict}
+use Rattle.opening.specs.Accepted.{opens, enough, opens-with, is-met, not-met, head-accepts, tail-accepts, first-accepts, then-accepts, first-refused, first-passed}
+use Rattle.opening.specs.declared.Refusal.{Refusal}
+use Rattle.opening.specs.declared.Refusal.the-variants.{Header, Table, Place}
+use Rattle.opening.specs.declared.Verdict.{Verdict}
+use Rattle.opening.specs.declared.Verdict.the-variants.{Accepted, Refused}
+use Rattle.opening.proofs.Header.{both}
+use Rattle.replacing.specs.Accepted.{Taken, taken, room}
+use Rattle.calls.specs.Tables.{recordWidth, valueWidth, leastScratch, entriesOf}
+use Rattle.calls.specs.Afresh.{Figure, count}
+use Rattle.calls.specs.Conditions.{Lengths, replace, readRecord, readValues, figure, scratchShort, readConditions, readVerdict, figureConditions, figureVerdict, opening, refusal}
 
 or-false : (a b : Bool) → (a || b) ≡ false → (a ≡ false) × (b ≡ false)
 or-false true b e = let z : _≡_ {A = ℕ} 0 1 = cc in absurd (omega arith)
 or-false false b e = (refl, e)
 
-module _ (R : Rules) where
-  open Rules R using (count, c1, c2, c3, c4, c5, c6)
+-- room in both tables
+pub record Roomy (r v n : ℕ) : Type 0 where
+  pub records : recordWidth * n ≤ r
+  pub values : valueWidth * n ≤ v
 
-  pub roomy : (b : List ℕ) (w n : ℕ) → short R b w n ≡ false → w * count b ≤ n
-  unfolding short
-  roomy b w n e = ltb-false n (w * count b) e
+roomy : (r v n : ℕ) → n ≤ entriesOf r v → Roomy r v n
+roomy r v n h = record { records = omega arith; values = omega arith }
 
-  pub c1-met : (b : List ℕ) → Opens R b → c1 b ≡ false
-  unfolding chartConditions
-  c1-met b e = met-none 1 0 (c1 b) (first-cons _ _ e .0)
+pub opening-met : (r v : ℕ) (b : List ℕ) → opening r v b ≡ Accepted → Opens b × Roomy r v (count b)
+opening-met r v b e = (opens b (entriesOf r v) e, roomy r v (count b) (enough b (entriesOf r v) e))
 
-  pub c2-met : (b : List ℕ) → Opens R b → c2 b ≡ false
-  unfolding chartConditions
-  c2-met b e = met-none 2 0 (c2 b) (first-cons _ _ (first-cons _ _ e .1) .0)
+pub opening-none : (r v : ℕ) (b : List ℕ) → Opens b → recordWidth * count b ≤ r → valueWidth * count b ≤ v → opening r v b ≡ Accepted
+opening-none r v b o x y = opens-with b (entriesOf r v) o (omega arith)
 
-  -- conditions 1 to 6, from 1, 2 and 3 to 6
-  pub opens-by : (b : List ℕ) → c1 b ≡ false → c2 b ≡ false → firstOf (bodyConditions R b) ≡ none → Opens R b
-  unfolding chartConditions firstOf met
-  opens-by b x y z = rw (x, y) z
+pub accepted-replace : (k : ℕ) (o : List ℕ) (r v : ℕ) (b : List ℕ) → refusal (replace k o) r v b ≡ Accepted → Taken b k o × Roomy r v (count b)
+unfolding refusal
+accepted-replace k o r v b e = (taken b k o (entriesOf r v) e, roomy r v (count b) (room b k o (entriesOf r v) e))
 
-  pub opening-met : (r v : ℕ) (b : List ℕ) → opening R r v b ≡ none → Opens R b × (16 * count b ≤ r) × (5 * count b ≤ v)
-  unfolding opening
-  opening-met r v b e =
-      let (o, q) = first-append (chartConditions R b) (met 7 0 (short R b 16 r || short R b 5 v) ∷ []) e in
-      let (x, y) = or-false (short R b 16 r) (short R b 5 v) (met-none 7 0 _ (first-cons _ [] q .0)) in
-      (o, roomy b 16 r x, roomy b 5 v y)
+-- a reading: its place lies in the chart, and in the table
+pub record Read (b : List ℕ) (entries k : ℕ) : Type 0 where
+  pub header : headerOk b ≡ true
+  pub room : count b ≤ entries
+  pub one : 1 ≤ k
+  pub below : k < count b
 
-  pub opening-none : (r v : ℕ) (b : List ℕ) → Opens R b → 16 * count b ≤ r → 5 * count b ≤ v → opening R r v b ≡ none
-  unfolding opening short firstOf met
-  opening-none r v b o x y =
-      first-join (chartConditions R b) _ o (rw (le-ltb r (16 * count b) x, le-ltb v (5 * count b) y))
+pub accepted-read : (b : List ℕ) (entries k : ℕ) → readVerdict b entries k ≡ Accepted → Read b entries k
+unfolding readConditions
+accepted-read b entries k e =
+    let t = both (ltb 0 k) (ltb k (layoutOf b .n)) (is-met (ltb 0 k && ltb k (layoutOf b .n)) Place (head-accepts _ _ (tail-accepts _ _ (tail-accepts _ _ e)))) in
+    record {
+      header = is-met (headerOk b) Header (head-accepts _ _ e);
+      room = ltb-false entries (layoutOf b .n) (not-met _ Table (head-accepts _ _ (tail-accepts _ _ e)));
+      one = ltb-true 0 k (t .0);
+      below = ltb-true k (layoutOf b .n) (t .1);
+    }
 
-  pub record Accepted (k : ℕ) (o : List ℕ) (r v : ℕ) (b : List ℕ) : Type 0 where
-    pub opens : Opens R b
-    pub records : 16 * count b ≤ r
-    pub values : 5 * count b ≤ v
-    pub below : k < count b
-    pub size : length o ≡ objectSize
-    pub becomes : firstOf (bodyConditions R (putObject k o b)) ≡ none
+pub accepted-record : (k r v : ℕ) (b : List ℕ) → refusal (readRecord k) r v b ≡ Accepted → Read b (r / recordWidth) k
+unfolding refusal
+accepted-record k r v b e = accepted-read b (r / recordWidth) k e
 
-  pub accepted-replace : (k : ℕ) (o : List ℕ) (r v : ℕ) (b : List ℕ) → refusal R (replace k o) r v b ≡ none → Accepted k o r v b
-  unfolding refusal
-  accepted-replace k o r v b e =
-      let (p, q) = first-append (chartConditions R b) _ e in
-      let (c7, q7) = first-cons _ _ q in
-      let (c8, q8) = first-cons _ _ q7 in
-      let (c3, q3) = first-cons _ _ q8 in
-      let (x, y) = or-false (short R b 16 r) (short R b 5 v) (met-none 7 0 _ c7) in
-      record {
-        opens = p;
-        records = roomy b 16 r x;
-        values = roomy b 5 v y;
-        below = ltb-true k (count b) (not-false _ (met-none 8 0 _ c8));
-        size = eqb-true (length o) objectSize (not-false _ (met-none 3 k _ c3));
-        becomes = q3;
-      }
+pub accepted-values : (k r v : ℕ) (b : List ℕ) → refusal (readValues k) r v b ≡ Accepted → Read b (v / valueWidth) k
+unfolding refusal
+accepted-values k r v b e = accepted-read b (v / valueWidth) k e
 
-  pub accepted-record : (k r v : ℕ) (b : List ℕ) → refusal R (readRecord k) r v b ≡ none → (1 ≤ k) × (k < count b)
-  unfolding refusal
-  accepted-record k r v b e =
-      let (p1, q1) = first-cons _ _ e in
-      let (p7, q7) = first-cons _ _ q1 in
-      let (p8, q8) = first-cons _ _ q7 in
-      (ltb-true 0 k (not-false _ (met-none 8 0 _ p8)), ltb-true k (count b) (not-false _ (met-none 8 0 _ (first-cons _ _ q8 .0))))
+-- a figure's conditions are opening's, and then scratch
+figure-list : (b : List ℕ) (entries : ℕ) (short : Bool) → figureConditions b entries short ≡ openConditions b entries ++ (refuseIf short Table ∷ [])
+unfolding figureConditions openConditions
+figure-list b entries short = sym (append-assoc (chartConditions b) (tooFew entries (count b) ∷ []) (refuseIf short Table ∷ []))
 
-  pub accepted-value : (k r v : ℕ) (b : List ℕ) → refusal R (readValue k) r v b ≡ none → (1 ≤ k) × (k < count b)
-  unfolding refusal
-  accepted-value k r v b e =
-      let (p1, q1) = first-cons _ _ e in
-      let (p7, q7) = first-cons _ _ q1 in
-      let (p8, q8) = first-cons _ _ q7 in
-      (ltb-true 0 k (not-false _ (met-none 8 0 _ p8)), ltb-true k (count b) (not-false _ (met-none 8 0 _ (first-cons _ _ q8 .0))))
+module _ (b : List ℕ) (entries : ℕ) (short : Bool) where
+  pub figure-refused : (q : Refusal) → openVerdict b entries ≡ Refused q → figureVerdict b entries short ≡ Refused q
+  figure-refused q e = ap firstOf (figure-list b entries short) ∙ first-refused (openConditions b entries) _ q e
 
-  -- totals are carried out exactly where the chart opens, the values have room and each skill has 8,192 numbers of scratch
-  pub totals-accepted : (x y z w r v : ℕ) (b : List ℕ)
-      → (refusal R (totals x y z w) r v b ≡ none) ↔ (Opens R b × (5 * count b ≤ v) × (8192 ≤ x) × (8192 ≤ y) × (8192 ≤ z) × (8192 ≤ w))
-  unfolding refusal scratchShort short firstOf met
-  totals-accepted x y z w r v b = (there, back)
+  pub figure-passed : openVerdict b entries ≡ Accepted → figureVerdict b entries short ≡ refuseIf short Table
+  unfolding firstOf
+  figure-passed e = ap firstOf (figure-list b entries short) ∙ (first-passed (openConditions b entries) _ e ∙ last short)
     where
-      there : firstOf (chartConditions R b ++ (met 7 0 (ltb v (5 * count b) || (ltb x 8192 || (ltb y 8192 || (ltb z 8192 || ltb w 8192)))) ∷ [])) ≡ none
-          → Opens R b × (5 * count b ≤ v) × (8192 ≤ x) × (8192 ≤ y) × (8192 ≤ z) × (8192 ≤ w)
-      there e =
-          let (o, q) = first-append (chartConditions R b) _ e in
-          let (s, t) = or-false (ltb v (5 * count b)) _ (met-none 7 0 _ (first-cons _ [] q .0)) in
-          let (x', t1) = or-false (ltb x 8192) _ t in
-          let (y', t2) = or-false (ltb y 8192) _ t1 in
-          let (z', w') = or-false (ltb z 8192) (ltb w 8192) t2 in
-          (o, ltb-false v (5 * count b) s, ltb-false x 8192 x', ltb-false y 8192 y', ltb-false z 8192 z', ltb-false w 8192 w')
+      last : (t : Bool) → firstOf (refuseIf t Table ∷ []) ≡ refuseIf t Table
+      last true = refl
+      last false = refl
 
-      back : Opens R b × (5 * count b ≤ v) × (8192 ≤ x) × (8192 ≤ y) × (8192 ≤ z) × (8192 ≤ w)
-          → firstOf (chartConditions R b ++ (met 7 0 (ltb v (5 * count b) || (ltb x 8192 || (ltb y 8192 || (ltb z 8192 || ltb w 8192)))) ∷ [])) ≡ none
-      back (o, h, hx, hy, hz, hw) =
-          first-join (chartConditions R b) _ o
-          (rw (le-ltb v (5 * count b) h, le-ltb x 8192 hx, le-ltb y 8192 hy, le-ltb z 8192 hz, le-ltb w 8192 hw))
+-- each skill has 8,192 numbers of scratch
+abbrev pub Enough : Lengths → Type 0
+Enough l = (leastScratch ≤ l .aim) × (leastScratch ≤ l .aimNoSliders) × (leastScratch ≤ l .speed) × (leastScratch ≤ l .flashlight)
+
+pub long : (l : Lengths) → scratchShort l ≡ false → Enough l
+unfolding scratchShort
+long l e =
+    let (x, t) = or-false (ltb (l .aim) leastScratch) _ e in
+    let (y, u) = or-false (ltb (l .aimNoSliders) leastScratch) _ t in
+    let (z, w) = or-false (ltb (l .speed) leastScratch) (ltb (l .flashlight) leastScratch) u in
+    (ltb-false _ _ x, ltb-false _ _ y, ltb-false _ _ z, ltb-false _ _ w)
+
+-- a figure is worked out exactly where the chart opens, the values have room and no scratch is short
+module _ (f : Figure) (l : Lengths) (r v : ℕ) (b : List ℕ) where
+  behind : List Verdict
+  behind = tooFew (v / valueWidth) (count b) ∷ refuseIf (scratchShort l) Table ∷ []
+
+  there : refusal (figure f l) r v b ≡ Accepted → Opens b × (valueWidth * count b ≤ v) × (scratchShort l ≡ false)
+  unfolding refusal figureConditions behind
+  there e =
+      let t = then-accepts (chartConditions b) behind e in
+      let h : count b ≤ v / valueWidth = ltb-false (v / valueWidth) (count b) (not-met (ltb (v / valueWidth) (count b)) Table (head-accepts _ _ t)) in
+      (first-accepts (chartConditions b) behind e, omega arith, not-met (scratchShort l) Table (head-accepts _ _ (tail-accepts _ _ t)))
+
+  back : Opens b × (valueWidth * count b ≤ v) × (scratchShort l ≡ false) → refusal (figure f l) r v b ≡ Accepted
+  unfolding refusal figureConditions firstOf behind
+  back (o, h, w) =
+      let t : count b ≤ v / valueWidth = omega arith in
+      first-passed (chartConditions b) behind o ∙ rw (le-ltb (v / valueWidth) (count b) t, w)
+
+  pub figure-accepted : (refusal (figure f l) r v b ≡ Accepted) ↔ (Opens b × (valueWidth * count b ≤ v) × (scratchShort l ≡ false))
+  figure-accepted = (there, back)

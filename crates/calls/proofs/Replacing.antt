@@ -1,71 +1,47 @@
--- A chart with an object put at a place: what it keeps, and that it opens. Assumes nothing.
-use mathlib.Core.Path.{_≡_, sym, _∙_}
+-- A chart with an object put at a place: N, the settings and the other objects are as they were. Assumes nothing.
+use mathlib.Core.Path.{_≡_, ap, _∙_}
 use mathlib.Core.List.{List}
-use Prim.Native.Nat.{ℕ, _+_, _-_, _*_, _≤_, _<_}
-use native.Mathlib.Omega.{arith}
-use native.Mathlib.Decide.{decLt}
-use lib.ListN.{length, take, drop}
-use Rattle.tables.specs.Parts.{part, put}
-use Rattle.objects.specs.Limits.{headerSize, objectSize}
-use Rattle.calls.specs.Rules.{Rules}
-use Rattle.calls.specs.Conditions.{objectBytes, putObject}
-use Rattle.calls.specs.Laws.{Laws, Opens}
-use Rattle.tables.specs.Rows.{length-put, take-put, drop-put, part-put-same, part-put-before, part-put-after}
-use Rattle.calls.proofs.Refusals.{c1-met, c2-met, opens-by, Accepted}
+use Prim.Native.Nat.{ℕ, _+_}
+use Rattle.objects.specs.Objects.{Holds, fieldsOf}
+use Rattle.objects.specs.declared.Fields.{Fields}
+use Rattle.objects.specs.declared.Layout.{Layout}
+use Rattle.entries.specs.Entries.{nestedOf, pointOf}
+use Rattle.entries.specs.Same.{SameEntries}
+use Rattle.opening.specs.Header.{layoutOf, settingsOf}
+use Rattle.opening.specs.Accepted.{header-ok}
+use Rattle.opening.proofs.Header.{holds}
+use Rattle.replacing.specs.Replace.{putObject}
+use Rattle.replacing.specs.Accepted.{Taken}
+use Rattle.replacing.specs.Replaced as R
+use Rattle.osu_object.specs.Osu.{objectOf, osuObject}
+use Rattle.osu_object.proofs.Alike as Same
+use Rattle.calls.specs.Afresh.{count, object}
 
--- N objects fit, and place k is one of them
-module _ (k : ℕ) (o b : List ℕ) (n : ℕ) (below : k < n) (size : length o ≡ objectSize) (fits : headerSize + objectSize * n ≤ length b) where
-  inside : headerSize + objectSize * k + length o ≤ headerSize + objectSize * n
-  inside = rw size (omega arith)
+-- an object is read from its fields and the entries that they name
+objects-same : (a b : List ℕ) (lay : Layout) (j : ℕ) → fieldsOf a lay j ≡ fieldsOf b lay j → SameEntries a b lay → objectOf a lay j ≡ objectOf b lay j
+objects-same a b lay j fields entries =
+    Same.object-same a lay j b lay j (record {
+      base = ap osuObject fields;
+      nested-count = ap (λ (f : Fields). f .«nested_count») fields;
+      point-count = ap (λ (f : Fields). f .«point_count») fields;
+      nested = λ k h. entries .nested (fieldsOf a lay j .«first_nested» + k) ∙ ap (λ (f : Fields). nestedOf b lay (f .«first_nested» + k)) fields;
+      points = λ k h. entries .points (fieldsOf a lay j .«first_point» + k) ∙ ap (λ (f : Fields). pointOf b lay (f .«first_point» + k)) fields;
+    })
 
-  pub length-kept : length (putObject k o b) ≡ length b
-  unfolding putObject
-  length-kept = length-put (headerSize + objectSize * k) o b (omega (arith, inside))
+module _ (k : ℕ) (o b : List ℕ) (t : Taken b k o) where
+  held : Holds b (layoutOf b)
+  held = holds b (header-ok b (t .opens))
 
-  pub header-kept : take headerSize (putObject k o b) ≡ take headerSize b
-  unfolding putObject
-  header-kept = take-put headerSize (headerSize + objectSize * k) o b (omega arith) (omega arith)
-
-  pub rest-kept : drop (headerSize + objectSize * n) (putObject k o b) ≡ drop (headerSize + objectSize * n) b
-  unfolding putObject
-  rest-kept = drop-put (headerSize + objectSize * n) (headerSize + objectSize * k) o b inside (omega (arith, inside))
-
-  pub place-put : objectBytes (putObject k o b) k ≡ o
-  unfolding putObject objectBytes
-  place-put = part-put-same (headerSize + objectSize * k) o b objectSize size (omega arith)
-
-  pub place-kept : (j : ℕ) → (j ≡ k → ⊥) → objectBytes (putObject k o b) j ≡ objectBytes b j
-  unfolding putObject objectBytes
-  place-kept j d = go (decLt j k)
-    where
-      go : Dec (j < k) → part (headerSize + objectSize * j) objectSize (put (headerSize + objectSize * k) o b) ≡ part (headerSize + objectSize * j) objectSize b
-      go (yes l) = part-put-before (headerSize + objectSize * j) objectSize (headerSize + objectSize * k) o b (omega arith) (omega arith)
-      go (no l) = part-put-after (headerSize + objectSize * j) objectSize (headerSize + objectSize * k) o b (omega arith) (omega arith)
-
-module _ (R : Rules) (L : Laws R) (k : ℕ) (o : List ℕ) (r v : ℕ) (b : List ℕ) (a : Accepted R k o r v b) where
-  open Rules R using (count, settings, object, c1, c2)
-
-  fits : headerSize + objectSize * count b ≤ length b
-  fits = L .shape b (c1-met R b (a .opens))
-
-  pub header-same : take headerSize (putObject k o b) ≡ take headerSize b
-  header-same = header-kept k o b (count b) (a .below) (a .size) fits
+  pub layout-same : layoutOf (putObject k o b) ≡ layoutOf b
+  layout-same = R.layout b k o held (t .below) (t .long)
 
   pub count-same : count (putObject k o b) ≡ count b
-  count-same = L .count-header (putObject k o b) b header-same
+  count-same = ap (λ (lay : Layout). lay .n) layout-same
 
-  pub settings-same : settings (putObject k o b) ≡ settings b
-  settings-same = L .settings-header (putObject k o b) b header-same
+  pub settings-same : settingsOf (putObject k o b) ≡ settingsOf b
+  settings-same = R.settings b k o held (t .below) (t .long)
 
-  pub still-opens : Opens R (putObject k o b)
-  still-opens =
-      opens-by R (putObject k o b)
-      (L .c1-header (putObject k o b) b header-same (length-kept k o b (count b) (a .below) (a .size) fits) ∙ c1-met R b (a .opens))
-      (L .c2-header (putObject k o b) b header-same ∙ c2-met R b (a .opens))
-      (a .becomes)
-
-  pub object-same : (j : ℕ) → j < count b → (j ≡ k → ⊥) → object (putObject k o b) j ≡ object b j
-  object-same j h d =
-      sym (L .object-local b (putObject k o b) j (a .opens) still-opens h (sym header-same)
-      (sym (place-kept k o b (count b) (a .below) (a .size) fits j d))
-      (sym (rest-kept k o b (count b) (a .below) (a .size) fits)))
+  pub object-same : (j : ℕ) → (j ≡ k → ⊥) → object (putObject k o b) j ≡ object b j
+  object-same j d =
+      ap (λ (lay : Layout). objectOf (putObject k o b) lay j) layout-same
+      ∙ objects-same (putObject k o b) b (layoutOf b) j (R.elsewhere b k o held (t .below) (t .long) j d) (R.entries b k o held (t .below) (t .long))

@@ -1,8 +1,6 @@
 pub mod Simulation
-pub mod Rules
+pub mod Tables
+pub mod Afresh
 pub mod Conditions
 pub mod Calls
 pub mod Statement
-pub mod Laws
-pub mod ChartRules
-pub mod Verdicts

@@ -1,68 +1,196 @@
--- What is claimed of the calls: demand 3 over every list of calls (`Sound`), what a replacement leaves as it was (`Frame`), charts that are alike (`Alike`), and
--- the place that a refusal returns (`Placed`). `Claims` has them all. Definitions only.
+-- What is claimed of the calls: demand 3 over every list of calls (`Sound`), what a call writes (`Outside`), what a replacement leaves as it was (`Frame`), charts
+-- that are alike (`Alike`), the place that a refusal returns (`Placed`), and how the promises of the public functions come in. `Claims` has them all. Definitions only.
 use mathlib.Core.Path.{_≡_}
 use mathlib.Core.Logic.{_↔_}
 use mathlib.Core.List.{List, [], _∷_, _++_, map}
 use mathlib.Core.Bool.{Bool, true, false, cond}
-use mathlib.Core.Option.{none, some}
-use Prim.Native.Nat.{ℕ, _+_, _*_, _<_, _≤_}
-use lib.Dec.{eqb}
+use Prim.Native.Nat.{ℕ, zero, suc, _+_, _*_, _<_, _≤_}
 use lib.Ieee.{Float}
-use lib.ListN.{length, take, drop}
-use Rattle.objects.specs.Limits.{headerSize, objectSize}
+use lib.ListN.{length, take, drop, set}
+use Rattle.floats.specs.Fields.{u32At}
+use Rattle.objects.specs.Limits.{headerSize, mostObjects}
+use Rattle.objects.specs.Objects.{fieldsOf, badFields, falls}
+use Rattle.objects.specs.declared.Fields.{Fields}
+use Rattle.entries.specs.Entries.{nestedOf, pointOf, badEntries}
 use Rattle.tables.specs.Parts.{row}
 use Rattle.records.specs.Rows.{recordAt}
+use Rattle.opening.specs.Header.{layoutOf, settingsOf}
+use Rattle.opening.specs.Conditions.{Opens, refusalNumber, refusalPlace}
+use Rattle.opening.specs.declared.Settings.{Settings}
+use Rattle.opening.specs.declared.Refusal.{Refusal}
+use Rattle.opening.specs.declared.Refusal.the-variants.{Header, Setting, Object, Entries, Order, Length, Table, Place}
+use Rattle.opening.specs.declared.Verdict.the-variants.{Accepted, Refused}
+use Rattle.replacing.specs.Replace.{objectBytes, putObject}
+use Rattle.skills.specs.declared.Skill.{Skill}
+use Rattle.skills.specs.Strains.{initialStrain, room, closeTo, reached, walk}
+use Rattle.skills.specs.Chart.{startAt}
 use Rattle.calls.specs.Simulation.{answers, after, Throughout}
-use Rattle.calls.specs.Rules.{Rules}
-use Rattle.calls.specs.Conditions.{objectBytes, putObject, Met, Operation, replace, readRecord, readValue, totals, firstOf, chartConditions, opening, refusal}
-use Rattle.calls.specs.Calls.{Scratch, totalsWith, zeros, totalsOutcome, Answer, refused, replaced, recordIs, valueIs, totalsAre, Opened, Borrowed, own, Call, contents, question, recordOf, recordRow, valueOf, strainOf, totalsOf, strainFrom, totalsFrom, opened, perform, plain}
+use Rattle.calls.specs.Tables.{recordWidth, valueWidth, Borrowed, own, IsOwn}
+use Rattle.calls.specs.Afresh.{Figure, count, freshRecord, freshRow, freshValues, freshStrains, freshFigure, strainsFrom, figureFrom}
+use Rattle.calls.specs.Conditions.{Scratch, Lengths, lengths, scratchShort, Operation, replace, readRecord, readValues, figure, opening, refusal}
+use Rattle.calls.specs.Calls.{Answer, refused, replaced, recordIs, valuesAre, figureIs, State, state, opened, openAnswer, openLeaves, verdictIn, outcome, zeros, scratchAfter, Call, lent, perform, question, plain}
 
 -- ---- The edits of a list of calls
 
--- an accepted replacement
-pub record Edit : Type 0 where
-  pub place : ℕ
-  pub bytes : List ℕ
+-- an accepted edit
+pub data Edit : Type 0 where
+  put : ℕ → List ℕ → Edit
 
--- the object that place j holds after the edits: the last one put there, else what it held
-unfoldable pub holds : ℕ → List Edit → List ℕ → List ℕ
-holds j [] old = old
-holds j (e ∷ es) old = holds j es (cond (eqb (e .place) j) (e .bytes) old)
+-- the objects of a chart in their order, each as its bytes
+unfoldable pub blocksFrom : List ℕ → ℕ → ℕ → List (List ℕ)
+blocksFrom b j zero = []
+blocksFrom b j (suc n) = objectBytes b j ∷ blocksFrom b (suc j) n
+
+unfoldable pub blocks : List ℕ → List (List ℕ)
+blocks b = blocksFrom b 0 (count b)
+
+-- what an edit makes of them, and what a list of edits does, the first one first
+unfoldable pub applied : Edit → List (List ℕ) → List (List ℕ)
+applied (put k o) os = set os k o
+
+unfoldable pub appliedAll : List Edit → List (List ℕ) → List (List ℕ)
+appliedAll [] os = os
+appliedAll (e ∷ es) os = appliedAll es (applied e os)
 
 unfoldable pub isReplaced : Answer → Bool
-isReplaced (refused m) = false
+isReplaced (refused r) = false
 isReplaced replaced = true
 isReplaced (recordIs x) = false
-isReplaced (valueIs x) = false
-isReplaced (totalsAre x) = false
+isReplaced (valuesAre x) = false
+isReplaced (figureIs x) = false
 
 unfoldable pub withEdit : Operation → Answer → List Edit → List Edit
-withEdit (replace k o) x es = cond (isReplaced x) (record { place = k; bytes = o } ∷ es) es
+withEdit (replace k o) x es = cond (isReplaced x) (put k o ∷ es) es
 withEdit (readRecord k) x es = es
-withEdit (readValue k) x es = es
-withEdit (totals m n s f) x es = es
+withEdit (readValues k) x es = es
+withEdit (figure f l) x es = es
 
--- the replacements among the calls that were answered as accepted
-unfoldable pub accepted : List Call → List Answer → List Edit
-accepted [] xs = []
-accepted (c ∷ cs) [] = []
-accepted (c ∷ cs) (x ∷ xs) = withEdit (c .operation) x (accepted cs xs)
+-- the edits among the calls that were answered as accepted
+unfoldable pub edits : List Call → List Answer → List Edit
+edits [] xs = []
+edits (c ∷ cs) [] = []
+edits (c ∷ cs) (x ∷ xs) = withEdit (c .operation) x (edits cs xs)
+
+-- chart b is chart b₀ with these edits and no other change
+pub record Kept (b₀ : List ℕ) (es : List Edit) (b : List ℕ) : Type 0 where
+  pub header : take headerSize b ≡ take headerSize b₀
+  pub objects : blocks b ≡ appliedAll es (blocks b₀)
+  -- nested entries and points
+  pub rest : drop (layoutOf b .«nested_at») b ≡ drop (layoutOf b₀ .«nested_at») b₀
 
 -- ---- Tables
 
--- the tables that an operation works on are the opening's: a reading works on the one that it reads, totals on the values
+-- the tables that an operation works on are the opening's: a reading works on the one that it reads, a figure on the values
 unfoldable pub OwnTables : Operation → Borrowed → Borrowed → Type 0
-OwnTables (replace k o) t u = (t ≡ own) × (u ≡ own)
-OwnTables (readRecord k) t u = t ≡ own
-OwnTables (readValue k) t u = u ≡ own
-OwnTables (totals m n s f) t u = u ≡ own
+OwnTables (replace k o) t u = IsOwn t × IsOwn u
+OwnTables (readRecord k) t u = IsOwn t
+OwnTables (readValues k) t u = IsOwn u
+OwnTables (figure f l) t u = IsOwn u
 
--- entries 0 and from n on hold what they held
-pub record Outside (n : ℕ) (rs₀ vs₀ rs vs : List Float) : Type 0 where
-  pub first-record : take 16 rs ≡ take 16 rs₀
-  pub later-records : drop (16 * n) rs ≡ drop (16 * n) rs₀
-  pub first-value : take 5 vs ≡ take 5 vs₀
-  pub later-values : drop (5 * n) vs ≡ drop (5 * n) vs₀
+-- entries 0 and from n on hold in st what they held in st₀
+pub record Outside (n : ℕ) (st₀ st : State) : Type 0 where
+  pub first-record : take recordWidth (st .records) ≡ take recordWidth (st₀ .records)
+  pub later-records : drop (recordWidth * n) (st .records) ≡ drop (recordWidth * n) (st₀ .records)
+  pub first-values : take valueWidth (st .values) ≡ take valueWidth (st₀ .values)
+  pub later-values : drop (valueWidth * n) (st .values) ≡ drop (valueWidth * n) (st₀ .values)
+
+-- the tables hold, at places 1 to N - 1, what is worked out afresh under settings s
+pub record Fresh (s : Settings) (st : State) : Type 0 where
+  pub records : (j : ℕ) → 1 ≤ j → j < count (st .chart) → row recordWidth (st .records) j ≡ freshRow s (st .chart) j
+  pub values : (j : ℕ) → 1 ≤ j → j < count (st .chart) → row valueWidth (st .values) j ≡ freshValues s (st .chart) j
+
+abbrev pub settingsIn : State → Settings
+settingsIn st = settingsOf (st .chart)
+
+-- ---- Demand 3's list
+
+-- "each lent [..], if carried out, the tables which that opening filled, as they then stand"
+unfoldable pub Admissible : State → Call → Type 0
+Admissible st c = verdictIn (c .operation) (lent c st) ≡ Accepted → OwnTables (c .operation) (c .records) (c .values)
+
+-- for one opening, of a chart into two tables (st₀), and one list of calls, which left the state st and answered xs
+pub record Sound (st₀ : State) (cs : List Call) (st : State) (xs : List Answer) : Type 0 where
+  -- every answer is the plain chart's
+  pub same : xs ≡ answers plain (map (question (length (st₀ .records)) (length (st₀ .values))) cs) (st₀ .chart)
+  -- the chart is the plain chart's
+  pub chart : st .chart ≡ after plain (map (question (length (st₀ .records)) (length (st₀ .values))) cs) (st₀ .chart)
+  -- each place holds its last accepted object, else its old bytes; header, nested entries and points stand
+  pub kept : Kept (st₀ .chart) (edits cs xs) (st .chart)
+  -- the chart would still open, into any tables that are long enough
+  pub opens : (r v : ℕ) → recordWidth * count (st .chart) ≤ r → valueWidth * count (st .chart) ≤ v → opening r v (st .chart) ≡ Accepted
+  -- records, values, strains and figures equal those worked out afresh; a record is what reading answers
+  pub fresh : Fresh (settingsIn st) st
+  pub reads : (j : ℕ) → 1 ≤ j → j < count (st .chart) → recordAt (st .records) j ≡ freshRecord (settingsIn st) (st .chart) j
+  pub strains : (j : ℕ) → 1 ≤ j → j < count (st .chart)
+      → strainsFrom (settingsIn st) (st .chart) (st .values) j ≡ freshStrains (settingsIn st) (st .chart) j
+  pub figures : (f : Figure) → figureFrom f (settingsIn st) (st .chart) (st .values) ≡ freshFigure f (settingsIn st) (st .chart)
+  -- opening a copy of the chart, into any other tables, gives what the tables hold
+  pub again : (rs vs : List Float) → let copy : State = state (st .chart) rs vs in
+      openAnswer copy ≡ Accepted → (j : ℕ) → 1 ≤ j → j < count (st .chart)
+      → (row recordWidth (st .records) j ≡ row recordWidth (opened copy .records) j)
+      × (row valueWidth (st .values) j ≡ row valueWidth (opened copy .values) j)
+  -- entries 0, and those behind every N on the way, hold what they held before the opening
+  pub outside : (n : ℕ) → count (st₀ .chart) ≤ n → Throughout perform (λ s c. count (perform c s .1 .chart) ≤ n) cs (opened st₀) → Outside n st₀ st
+
+-- ---- What a replacement at place k leaves as it was
+
+-- of what is worked out afresh, b' being the chart after it
+pub record FrameAfresh (k : ℕ) (b b' : List ℕ) : Type 0 where
+  pub records-before : (j : ℕ) → j < count b → j < k → freshRecord (settingsOf b') b' j ≡ freshRecord (settingsOf b) b j
+  pub records-after : (j : ℕ) → j < count b → k + 2 < j → freshRecord (settingsOf b') b' j ≡ freshRecord (settingsOf b) b j
+  pub values-before : (j : ℕ) → 1 ≤ j → j < count b → j + 1 < k → freshValues (settingsOf b') b' j ≡ freshValues (settingsOf b) b j
+  pub values-after : (j : ℕ) → 1 ≤ j → j < count b → k + 33 < j → freshValues (settingsOf b') b' j ≡ freshValues (settingsOf b) b j
+  pub strains-before : (j : ℕ) → j + 1 < k → freshStrains (settingsOf b') b' j ≡ freshStrains (settingsOf b) b j
+
+-- and of the opening's tables, and of the strains that follow from them
+pub record Frame (k : ℕ) (st st' : State) : Type 0 where
+  pub records-before : (j : ℕ) → j < k → row recordWidth (st' .records) j ≡ row recordWidth (st .records) j
+  pub records-after : (j : ℕ) → k + 2 < j → row recordWidth (st' .records) j ≡ row recordWidth (st .records) j
+  pub values-before : (j : ℕ) → j + 1 < k → row valueWidth (st' .values) j ≡ row valueWidth (st .values) j
+  pub values-after : (j : ℕ) → k + 33 < j → row valueWidth (st' .values) j ≡ row valueWidth (st .values) j
+  pub strains-before : (i : ℕ) → i + 1 < k
+      → strainsFrom (settingsIn st') (st' .chart) (st' .values) i ≡ strainsFrom (settingsIn st) (st .chart) (st .values) i
+  pub afresh : FrameAfresh k (st .chart) (st' .chart)
+
+-- ---- "Charts are alike about a place j from 1 up"
+
+-- an object's fields without the firsts
+unfoldable pub unplaced : Fields → Fields
+unplaced f = record {
+  start = f .start;
+  end = f .end;
+  x = f .x;
+  y = f .y;
+  «stack_x» = f .«stack_x»;
+  «stack_y» = f .«stack_y»;
+  kind = f .kind;
+  spans = f .spans;
+  «first_nested» = 0;
+  «nested_count» = f .«nested_count»;
+  «first_point» = 0;
+  «point_count» = f .«point_count»;
+}
+
+abbrev pub fieldsIn : List ℕ → ℕ → Fields
+fieldsIn b i = fieldsOf b (layoutOf b) i
+
+-- "the objects there agree in every field but the firsts, and in nested entries and points, in order"
+pub record Agree (i : ℕ) (b b' : List ℕ) : Type 0 where
+  pub fields : unplaced (fieldsIn b i) ≡ unplaced (fieldsIn b' i)
+  pub nested : (k : ℕ) → k < fieldsIn b i .«nested_count»
+      → nestedOf b (layoutOf b) (fieldsIn b i .«first_nested» + k) ≡ nestedOf b' (layoutOf b') (fieldsIn b' i .«first_nested» + k)
+  pub points : (k : ℕ) → k < fieldsIn b i .«point_count»
+      → pointOf b (layoutOf b) (fieldsIn b i .«first_point» + k) ≡ pointOf b' (layoutOf b') (fieldsIn b' i .«first_point» + k)
+
+pub record Alike (j : ℕ) (b b' : List ℕ) : Type 0 where
+  pub here : (1 ≤ j) × (j < count b) × (j < count b')
+  pub same-settings : settingsOf b ≡ settingsOf b'
+  pub same-format : u32At b 28 ≡ u32At b' 28
+  -- the same places from j - 33 to j + 1, and objects that agree there
+  pub places : (i : ℕ) → j ≤ i + 33 → i ≤ j + 1 → (i < count b) ↔ (i < count b')
+  pub objects : (i : ℕ) → j ≤ i + 33 → i ≤ j + 1 → i < count b → Agree i b b'
+
+-- ---- "3, 4 and 5 also return the lowest offending place [..], others 0"
 
 -- j is the lowest of places 0 to n - 1 at which a test holds
 pub record Lowest (test : ℕ → Bool) (n j : ℕ) : Type 0 where
@@ -70,129 +198,87 @@ pub record Lowest (test : ℕ → Bool) (n j : ℕ) : Type 0 where
   pub offends : test j ≡ true
   pub none-lower : (i : ℕ) → i < j → test i ≡ false
 
-module _ (R : Rules) where
-  open Rules R using (Settings, count, settings, format, object, c3, c4, c5)
+-- the place that a refusal of a chart's own conditions names; those without a place have 0 by `refusalPlace`
+abbrev pub Placed : List ℕ → Refusal → Type 0
+Placed b (Object j) = Lowest (badFields b (layoutOf b)) (count b) j
+Placed b (Entries j) = Lowest (badEntries b (layoutOf b)) (count b) j
+Placed b (Order j) = Lowest (falls b (layoutOf b)) (count b) j
+Placed b Header = Unit {0}
+Placed b Setting = Unit {0}
+Placed b Length = Unit {0}
+Placed b Table = Unit {0}
+Placed b Place = Unit {0}
 
-  -- ---- Demand 3's list
+-- of a replacement: of the chart as it is lent; else no such place; else an object of another length, at its place; else of the chart as it would become
+pub data ReplacePlaced (k : ℕ) (o : List ℕ) (r v : ℕ) (b : List ℕ) (q : Refusal) : Type 0 where
+  of-chart : opening r v b ≡ Refused q → Placed b q → ReplacePlaced k o r v b q
+  of-place : opening r v b ≡ Accepted → count b ≤ k → q ≡ Place → ReplacePlaced k o r v b q
+  of-length : opening r v b ≡ Accepted → k < count b → (length o ≡ layoutOf b .«object_size» → ⊥) → q ≡ Object k → ReplacePlaced k o r v b q
+  of-result : opening r v b ≡ Accepted → k < count b → length o ≡ layoutOf b .«object_size» → Placed (putObject k o b) q → ReplacePlaced k o r v b q
 
-  -- "each lent [..], if carried out, the tables which that opening filled, as they then stand"
-  unfoldable pub Admissible : Opened → Call → Type 0
-  Admissible st c =
-      refusal R (c .operation) (length (contents (c .records) (st .records))) (length (contents (c .values) (st .values))) (st .chart) ≡ none
-      → OwnTables (c .operation) (c .records) (c .values)
+-- ---- How the promises of the public functions come in
 
-  -- chart b is chart b₀ with these edits and no other change
-  pub record Kept (b₀ : List ℕ) (es : List Edit) (b : List ℕ) : Type 0 where
-    pub header : take headerSize b ≡ take headerSize b₀
-    pub places : (j : ℕ) → j < count b₀ → objectBytes b j ≡ holds j es (objectBytes b₀ j)
-    pub rest : drop (headerSize + objectSize * count b₀) b ≡ drop (headerSize + objectSize * count b₀) b₀
+-- a call that borrows both of the opening's tables
+abbrev pub ownCall : Operation → Call
+ownCall a = record { operation = a; records = own; values = own }
 
-  -- the tables hold, at places 1 to N - 1, what is worked out afresh under settings s
-  pub record Fresh (s : Settings) (b : List ℕ) (rs vs : List Float) : Type 0 where
-    pub records : (j : ℕ) → 1 ≤ j → j < count b → row 16 rs j ≡ recordRow R s b j
-    pub values : (j : ℕ) → 1 ≤ j → j < count b → row 5 vs j ≡ valueOf R s b j
+-- ---- All of it
 
-  -- for one opening, of chart b into tables rs and vs, and one list of calls, which left the state st and answered xs
-  pub record Sound (b : List ℕ) (rs vs : List Float) (cs : List Call) (st : Opened) (xs : List Answer) : Type 0 where
-    -- every answer is the plain chart's
-    pub same : xs ≡ answers (plain R) (map (question (length rs) (length vs)) cs) b
-    -- the chart is the plain chart's
-    pub chart : st .chart ≡ after (plain R) (map (question (length rs) (length vs)) cs) b
-    -- each place holds its last accepted object, else its old bytes; header, nested entries and points stand
-    pub kept : Kept b (accepted cs xs) (st .chart)
-    -- the chart would still open, into any tables that are long enough
-    pub opens : (r v : ℕ) → 16 * count b ≤ r → 5 * count b ≤ v → opening R r v (st .chart) ≡ none
-    -- records, values, strains and totals equal those worked out afresh; a record is what reading answers
-    pub fresh : Fresh (settings (st .chart)) (st .chart) (st .records) (st .values)
-    pub reads : (j : ℕ) → 1 ≤ j → j < count (st .chart) → recordAt (st .records) j ≡ recordOf R (settings (st .chart)) (st .chart) j
-    pub strains : (j : ℕ) → 1 ≤ j → j < count (st .chart)
-        → strainFrom R (settings (st .chart)) (st .chart) (st .values) j ≡ strainOf R (settings (st .chart)) (st .chart) j
-    pub total : totalsFrom R (settings (st .chart)) (st .chart) (st .values) ≡ totalsOf R (settings (st .chart)) (st .chart)
-    -- opening a copy of the chart, into any other tables, gives what the tables hold
-    pub again : (rs' vs' : List Float) → opening R (length rs') (length vs') (st .chart) ≡ none → (j : ℕ) → 1 ≤ j → j < count (st .chart)
-        → (row 16 (st .records) j ≡ row 16 (opened R (st .chart) rs' vs' .records) j)
-        × (row 5 (st .values) j ≡ row 5 (opened R (st .chart) rs' vs' .values) j)
-    -- entries 0 and from N on hold what they held before the opening
-    pub outside : Outside (count b) rs vs (st .records) (st .values)
-
-  -- ---- What a replacement at place k leaves as it was
-
-  -- of what is worked out afresh, b' being the chart after it
-  pub record FrameAfresh (k : ℕ) (b b' : List ℕ) : Type 0 where
-    pub records-before : (j : ℕ) → j < count b → j < k → recordOf R (settings b') b' j ≡ recordOf R (settings b) b j
-    pub records-after : (j : ℕ) → j < count b → k + 2 < j → recordOf R (settings b') b' j ≡ recordOf R (settings b) b j
-    pub values-before : (j : ℕ) → 1 ≤ j → j < count b → j + 1 < k → valueOf R (settings b') b' j ≡ valueOf R (settings b) b j
-    pub values-after : (j : ℕ) → 1 ≤ j → j < count b → k + 33 < j → valueOf R (settings b') b' j ≡ valueOf R (settings b) b j
-    pub strains-before : (j : ℕ) → j + 1 < k → strainOf R (settings b') b' j ≡ strainOf R (settings b) b j
-
-  -- and of the opening's tables, and of the strains that follow from them
-  pub record Frame (k : ℕ) (st st' : Opened) : Type 0 where
-    pub records-before : (j : ℕ) → j < k → row 16 (st' .records) j ≡ row 16 (st .records) j
-    pub records-after : (j : ℕ) → k + 2 < j → row 16 (st' .records) j ≡ row 16 (st .records) j
-    pub values-before : (j : ℕ) → j + 1 < k → row 5 (st' .values) j ≡ row 5 (st .values) j
-    pub values-after : (j : ℕ) → k + 33 < j → row 5 (st' .values) j ≡ row 5 (st .values) j
-    pub strains-before : (i : ℕ) → i + 1 < k
-        → strainFrom R (settings (st' .chart)) (st' .chart) (st' .values) i ≡ strainFrom R (settings (st .chart)) (st .chart) (st .values) i
-    pub afresh : FrameAfresh k (st .chart) (st' .chart)
-
-  -- ---- "Charts are alike about a place j from 1 up"
-
-  pub record Alike (j : ℕ) (b b' : List ℕ) : Type 0 where
-    pub here : (1 ≤ j) × (j < count b) × (j < count b')
-    pub same-settings : settings b ≡ settings b'
-    pub same-format : format b ≡ format b'
-    -- the same places from j - 33 to j + 1, and the same objects there
-    pub places : (i : ℕ) → j ≤ i + 33 → i ≤ j + 1 → (i < count b) ↔ (i < count b')
-    pub objects : (i : ℕ) → j ≤ i + 33 → i ≤ j + 1 → i < count b → object b i ≡ object b' i
-
-  -- ---- "3, 4 and 5 also return the lowest offending place [..], others 0"
-
-  pub record Placed (b : List ℕ) (m : Met) : Type 0 where
-    pub three : m .number ≡ 3 → Lowest (c3 b) (count b) (m .place)
-    pub four : m .number ≡ 4 → Lowest (c4 b) (count b) (m .place)
-    pub five : m .number ≡ 5 → Lowest (c5 b) (count b) (m .place)
-    pub others : (m .number ≡ 3 → ⊥) → (m .number ≡ 4 → ⊥) → (m .number ≡ 5 → ⊥) → m .place ≡ 0
-
-  -- of a replacement at place k, b' being the chart as it would become: "an object lent in any other length is 3 at that place"
-  pub data ReplacePlaced (k : ℕ) (b b' : List ℕ) (m : Met) : Type 0 where
-    of-chart : Placed b m → ReplacePlaced k b b' m
-    of-length : m .number ≡ 3 → m .place ≡ k → ReplacePlaced k b b' m
-    of-result : Placed b' m → ReplacePlaced k b b' m
-
-  -- ---- All of it
-
-  pub record Claims : Type 0 where
-    -- demand 3's list is one claim over the whole of it
-    pub list : (b : List ℕ) (rs vs : List Float) → opening R (length rs) (length vs) b ≡ none
-        → (cs : List Call) → Throughout (perform R) Admissible cs (opened R b rs vs)
-        → Sound b rs vs cs (after (perform R) cs (opened R b rs vs)) (answers (perform R) cs (opened R b rs vs))
-    -- a replacement at place k, accepted or refused, in any state and whatever tables it borrows
-    pub frame : (k : ℕ) (o : List ℕ) (t u : Borrowed) (st : Opened)
-        → Frame k st (perform R (record { operation = replace k o; records = t; values = u }) st .1)
-    -- the same in such a list: the tables are fresh before and after it
-    pub frame-in-list : (b : List ℕ) (rs vs : List Float) → opening R (length rs) (length vs) b ≡ none
-        → (cs ds : List Call) (k : ℕ) (o : List ℕ) (t u : Borrowed)
-        → let c : Call = record { operation = replace k o; records = t; values = u } in
-        Throughout (perform R) Admissible (cs ++ (c ∷ ds)) (opened R b rs vs)
-        → let x = after (perform R) cs (opened R b rs vs) in let y = after (perform R) (cs ++ (c ∷ [])) (opened R b rs vs) in
-        Frame k x y × Fresh (settings (x .chart)) (x .chart) (x .records) (x .values) × Fresh (settings (y .chart)) (y .chart) (y .records) (y .values)
-    -- charts that are alike about j have the same values at j, worked out afresh and in the tables that opening them left
-    pub alike : (j : ℕ) (b b' : List ℕ) → Alike j b b' → valueOf R (settings b) b j ≡ valueOf R (settings b') b' j
-    pub alike-opened : (j : ℕ) (b b' : List ℕ) (rs vs rs' vs' : List Float)
-        → opening R (length rs) (length vs) b ≡ none → opening R (length rs') (length vs') b' ≡ none → Alike j b b'
-        → row 5 (opened R b rs vs .values) j ≡ row 5 (opened R b' rs' vs' .values) j
-    -- the place that a refusal returns
-    pub opening-placed : (r v : ℕ) (b : List ℕ) (m : Met) → opening R r v b ≡ some m → Placed b m
-    pub replace-placed : (k : ℕ) (o : List ℕ) (r v : ℕ) (b : List ℕ) (m : Met) → refusal R (replace k o) r v b ≡ some m → ReplacePlaced k b (putObject k o b) m
-    pub record-placed : (k r v : ℕ) (b : List ℕ) (m : Met) → refusal R (readRecord k) r v b ≡ some m → m .place ≡ 0
-    pub value-placed : (k r v : ℕ) (b : List ℕ) (m : Met) → refusal R (readValue k) r v b ≡ some m → m .place ≡ 0
-    pub totals-placed : (x y z w r v : ℕ) (b : List ℕ) (m : Met) → refusal R (totals x y z w) r v b ≡ some m → Placed b m
-    -- totals are carried out exactly where the chart meets none of 1 to 6, the values have N entries and each skill has 8,192 numbers of scratch
-    pub totals-accepted : (x y z w r v : ℕ) (b : List ℕ)
-        → (refusal R (totals x y z w) r v b ≡ none)
-        ↔ ((firstOf (chartConditions R b) ≡ none) × (5 * count b ≤ v) × (8192 ≤ x) × (8192 ≤ y) × (8192 ≤ z) × (8192 ≤ w))
-    -- "Carried out, it leaves all scratch 0; refused, as it was lent"
-    pub scratch-cleared : (x : Scratch) (b : List ℕ) (vs : List Float) → refusal R (totalsWith x) 0 (length vs) b ≡ none
-        → totalsOutcome R x b vs .1
-        ≡ record { aim = zeros (x .aim); aimNoSliders = zeros (x .aimNoSliders); speed = zeros (x .speed); flashlight = zeros (x .flashlight) }
-    pub scratch-kept : (x : Scratch) (b : List ℕ) (vs : List Float) (m : Met) → refusal R (totalsWith x) 0 (length vs) b ≡ some m → totalsOutcome R x b vs .1 ≡ x
+pub record Claims : Type 0 where
+  -- demand 3's list is one claim over the whole of it
+  pub list : (st₀ : State) → openAnswer st₀ ≡ Accepted
+      → (cs : List Call) → Throughout perform Admissible cs (opened st₀) → Sound st₀ cs (after perform cs (opened st₀)) (answers perform cs (opened st₀))
+  -- a step of the list is the promise of the function that is called: with the opening's tables it answers and leaves what the promise says; a function that
+  -- borrows one table only answers the same whatever the other one holds
+  pub steps : (a : Operation) (st : State) → perform (ownCall a) st ≡ (outcome a st .answer, outcome a st .leaves)
+  pub record-alone : (k : ℕ) (b : List ℕ) (rs vs : List Float)
+      → outcome (readRecord k) (state b rs vs) .answer ≡ outcome (readRecord k) (state b rs []) .answer
+  pub values-alone : (k : ℕ) (b : List ℕ) (rs vs : List Float)
+      → outcome (readValues k) (state b rs vs) .answer ≡ outcome (readValues k) (state b [] vs) .answer
+  pub figure-alone : (f : Figure) (l : Lengths) (b : List ℕ) (rs vs : List Float)
+      → outcome (figure f l) (state b rs vs) .answer ≡ outcome (figure f l) (state b [] vs) .answer
+  -- every list of operations on the opening's own tables is such a list
+  pub own-calls : (ops : List Operation) (st : State) → Throughout perform Admissible (map ownCall ops) st
+  -- "Opening and editing write table entries 1 to N-1 only", in any state and for any tables; N is that of the chart which the call leaves
+  pub opening-writes : (st : State) → Outside (count (st .chart)) st (openLeaves st)
+  pub writes : (a : Operation) (st : State) → Outside (count (outcome a st .leaves .chart)) st (outcome a st .leaves)
+  -- opening writes nothing to the chart; readings and figures nothing at all; no call so far changes N
+  pub opening-reads : (st : State) → openLeaves st .chart ≡ st .chart
+  pub record-reads : (k : ℕ) (st : State) → outcome (readRecord k) st .leaves ≡ st
+  pub values-reads : (k : ℕ) (st : State) → outcome (readValues k) st .leaves ≡ st
+  pub figure-reads : (f : Figure) (l : Lengths) (st : State) → outcome (figure f l) st .leaves ≡ st
+  pub counts : (a : Operation) (st : State) → count (outcome a st .leaves .chart) ≡ count (st .chart)
+  -- a replacement at place k, accepted or refused, in any state and whatever tables it borrows
+  pub frame : (k : ℕ) (o : List ℕ) (t u : Borrowed) (st : State) → Frame k st (perform (record { operation = replace k o; records = t; values = u }) st .1)
+  -- the same in such a list: the tables are fresh before and after it
+  pub frame-in-list : (st₀ : State) → openAnswer st₀ ≡ Accepted
+      → (cs ds : List Call) (k : ℕ) (o : List ℕ) (t u : Borrowed)
+      → let c : Call = record { operation = replace k o; records = t; values = u } in
+      Throughout perform Admissible (cs ++ (c ∷ ds)) (opened st₀)
+      → let x = after perform cs (opened st₀) in let y = after perform (cs ++ (c ∷ [])) (opened st₀) in
+      Frame k x y × Fresh (settingsIn x) x × Fresh (settingsIn y) y
+  -- charts that are alike about j have the same values at j, worked out afresh and in the tables that opening them left
+  pub alike : (j : ℕ) (b b' : List ℕ) → Alike j b b' → freshValues (settingsOf b) b j ≡ freshValues (settingsOf b') b' j
+  pub alike-opened : (j : ℕ) (st st' : State) → openAnswer st ≡ Accepted → openAnswer st' ≡ Accepted → Alike j (st .chart) (st' .chart)
+      → row valueWidth (opened st .values) j ≡ row valueWidth (opened st' .values) j
+  -- the place that a refusal returns, and that it is small; number and place tell which refusal it is
+  pub opening-placed : (r v : ℕ) (b : List ℕ) (q : Refusal) → opening r v b ≡ Refused q → Placed b q
+  pub replace-placed : (k : ℕ) (o : List ℕ) (r v : ℕ) (b : List ℕ) (q : Refusal) → refusal (replace k o) r v b ≡ Refused q → ReplacePlaced k o r v b q
+  pub record-placed : (k r v : ℕ) (b : List ℕ) (q : Refusal) → refusal (readRecord k) r v b ≡ Refused q → refusalPlace q ≡ 0
+  pub values-placed : (k r v : ℕ) (b : List ℕ) (q : Refusal) → refusal (readValues k) r v b ≡ Refused q → refusalPlace q ≡ 0
+  pub figure-placed : (f : Figure) (l : Lengths) (r v : ℕ) (b : List ℕ) (q : Refusal) → refusal (figure f l) r v b ≡ Refused q → Placed b q
+  pub opening-limit : (r v : ℕ) (b : List ℕ) (q : Refusal) → opening r v b ≡ Refused q → refusalPlace q ≤ mostObjects
+  pub place-limit : (a : Operation) (r v : ℕ) (b : List ℕ) (q : Refusal) → refusal a r v b ≡ Refused q → refusalPlace q ≤ mostObjects
+  pub refusal-told : (q q' : Refusal) → refusalNumber q ≡ refusalNumber q' → refusalPlace q ≡ refusalPlace q' → q ≡ q'
+  -- a figure is worked out exactly where the chart meets none of 1 to 6, the values have N entries and each skill has 8,192 numbers of scratch
+  pub figure-accepted : (f : Figure) (l : Lengths) (r v : ℕ) (b : List ℕ)
+      → (refusal (figure f l) r v b ≡ Accepted)
+      ↔ (Opens b × (valueWidth * count b ≤ v) × (scratchShort l ≡ false))
+  -- "Carried out, it leaves all scratch 0; refused, as it was lent"
+  pub scratch-cleared : (f : Figure) (x : Scratch) (st : State) → verdictIn (figure f (lengths x)) st ≡ Accepted → scratchAfter f st x
+      ≡ record { aim = zeros (x .aim); aimNoSliders = zeros (x .aimNoSliders); speed = zeros (x .speed); flashlight = zeros (x .flashlight) }
+  pub scratch-kept : (f : Figure) (x : Scratch) (st : State) (q : Refusal) → verdictIn (figure f (lengths x)) st ≡ Refused q → scratchAfter f st x ≡ x
+  -- the section walk of a chart that opens never stops for the bound on sections: with any larger bound it is the same
+  pub sections : (b : List ℕ) → Opens b → (k : Skill) (strains : ℕ → Float) (j m : ℕ) → suc j < count b → room ≤ m
+      → let starts = startAt b (layoutOf b) (settingsOf b .«clock_rate») in
+      closeTo m (initialStrain k (strains j) (starts j)) (starts (suc j)) (walk k starts strains j) ≡ reached k starts strains (suc j) (walk k starts strains j)

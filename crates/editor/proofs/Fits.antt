@@ -1,35 +1,46 @@
--- What an accepted chart tells of its tables. Assumes nothing.
-use Prim.Native.Nat.{ℕ, _*_, _/_, _≤_, min}
+-- What an accepted chart tells of its tables, and of scratch. Assumes nothing.
+use Prim.Native.Nat.{ℕ, _*_, _≤_}
 use mathlib.Core.Path.{_≡_}
 use mathlib.Core.List.{List}
 use native.Mathlib.Omega.{arith}
 use lib.ListN.{length}
 use Rattle.objects.specs.Limits.{headerSize, mostObjects}
+use Rattle.objects.specs.Objects.{Holds}
 use Rattle.opening.specs.Header.{layoutOf}
-use Rattle.opening.specs.Verdict.{verdict}
-use Rattle.opening.specs.Accepted.{opened, enough}
+use Rattle.opening.specs.Accepted.{header-ok}
 use Rattle.opening.specs.declared.Verdict.the-variants.{Accepted}
-use Rattle.opening.proofs.Header.{parts}
+use Rattle.opening.proofs.Header.{parts, holds}
 use Rattle.osu_object.specs.Osu.{Ready}
-use Rattle.object.proofs.Accepted as Chart
-use Rattle.calls.specs.Verdicts.{entriesOf}
+use Rattle.object.proofs.Accepted.{chart-ready}
+use Rattle.calls.specs.Tables.{recordWidth, valueWidth, valueEntries}
+use Rattle.calls.specs.Afresh.{totals}
+use Rattle.calls.specs.Conditions.{Lengths, scratchShort, figure, figureVerdict, opening, refusal}
+use Rattle.calls.proofs.Refusals.{opening-met, figure-accepted, Enough, long}
 
 -- a chart with tables of r and v numbers
 pub record Fits (b : List ℕ) (r v : ℕ) : Type 0 where
   pub ready : Ready b (layoutOf b)
   pub long : headerSize ≤ length b
   pub few : layoutOf b .n ≤ mostObjects
-  pub records : 16 * layoutOf b .n ≤ r
-  pub values : 5 * layoutOf b .n ≤ v
+  pub records : recordWidth * layoutOf b .n ≤ r
+  pub values : valueWidth * layoutOf b .n ≤ v
 
-pub fits : (b : List ℕ) (r v : ℕ) → verdict b (entriesOf r v) ≡ Accepted → Fits b r v
+pub fits : (b : List ℕ) (r v : ℕ) → opening r v b ≡ Accepted → Fits b r v
 fits b r v e =
-    let n : layoutOf b .n ≤ min (r / 16) (v / 5) = enough b (entriesOf r v) e in
-    let ready : Ready b (layoutOf b) = Chart.opened b (entriesOf r v) e .ready in
-    record {
-      ready = ready;
-      long = parts b (opened b (entriesOf r v) e .header) .long;
-      few = ready .holds .few;
-      records = omega (arith, n);
-      values = omega (arith, n);
-    }
+    let (o, room) = opening-met r v b e in
+    let ready : Ready b (layoutOf b) = chart-ready b o in
+    record { ready = ready; long = parts b (header-ok b o) .long; few = ready .holds .few; records = room .records; values = room .values }
+
+-- a chart with a value table of v numbers and scratch of these lengths
+pub record Sums (b : List ℕ) (v : ℕ) (l : Lengths) : Type 0 where
+  pub long : headerSize ≤ length b
+  pub holds : Holds b (layoutOf b)
+  pub rows : valueWidth * layoutOf b .n ≤ v
+  pub scratch : Enough l
+
+pub sums : (b : List ℕ) (v : ℕ) (l : Lengths) → figureVerdict b (valueEntries v) (scratchShort l) ≡ Accepted → Sums b v l
+unfolding refusal
+sums b v l e =
+    let (o, rows, short) = figure-accepted totals l 0 v b .0 e in
+    let h = header-ok b o in
+    record { long = parts b h .long; holds = holds b h; rows = rows; scratch = long l short }

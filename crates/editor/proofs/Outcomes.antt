@@ -1,60 +1,112 @@
--- A call whose conditions are a verdict's: refused it changes nothing, accepted it is carried out. Assumes nothing.
-use Prim.Native.Nat.{ℕ, _+_, _-_, min, max}
+-- A call, by the condition that it meets: refused it changes nothing, accepted it is carried out. Assumes nothing.
+use Prim.Native.Nat.{ℕ, _+_, _-_, _/_, min, max}
 use mathlib.Core.Path.{_≡_, refl, ap, _∙_}
-use mathlib.Core.List.{List}
-use mathlib.Core.Option.{Option, none, some}
+use mathlib.Core.List.{List, []}
 use lib.Ieee.{Float}
 use lib.ListN.{length}
-use Rattle.tables.specs.Parts.{fill}
-use Rattle.opening.specs.Header.{layoutOf}
-use Rattle.opening.specs.Verdict.{numberOf, placeOf, verdict}
+use Rattle.tables.specs.Parts.{row, fill}
+use Rattle.records.specs.Fill.{filled, filledRange}
+use Rattle.records.specs.Rows.{recordAt}
+use Rattle.opening.specs.Header.{layoutOf, settingsOf}
+use Rattle.opening.specs.Conditions.{ifAccepted}
 use Rattle.opening.specs.declared.Settings.{Settings}
 use Rattle.opening.specs.declared.Refusal.{Refusal}
 use Rattle.opening.specs.declared.Verdict.{Verdict}
 use Rattle.opening.specs.declared.Verdict.the-variants.{Accepted, Refused}
-use Rattle.evaluators.specs.Values.{valuesOf, valuesIn}
-use Rattle.calls.specs.Conditions.{Met, Operation, refusal, opening}
-use Rattle.calls.specs.Calls.{openStart, openMade, valuesStart, valuesMade, unless, refuse, execute, outcome, Opened, opened, openOutcome, reach, valueFrom, openValues, editValues}
-use Rattle.calls.specs.Verdicts.{metBy, entriesOf}
-use Rattle.calls.proofs.Bridge.{opening-verdict}
-use Rattle.editor.specs.Rules.{rules}
+use Rattle.replacing.specs.Replace.{putObject, replaceVerdict}
+use Rattle.evaluators.specs.Values.{valuesIn}
+use Rattle.skills.specs.Chart as Chart
+use Rattle.calls.specs.Tables.{valueWidth, recordEntries, valueEntries, entriesOf}
+use Rattle.calls.specs.Afresh.{totals, totalsAre, figureOf}
+use Rattle.calls.specs.Conditions.{Scratch, lengths, replace, readRecord, readValues, figure, scratchShort, readVerdict, figureVerdict, opening, refusal}
+use Rattle.calls.specs.Calls.{openStart, openMade, recordsStart, recordsMade, valuesStart, valuesMade, openRecords, openValues, editRecords, editValues, refused, replaced, recordIs, valuesAre, figureIs, Outcome, State, state, result, refuse, opened, openAnswer, openLeaves, edited, execute, verdictIn, outcome, cleared, scratchAfter}
+use Rattle.calls.proofs.Alone.{carried-out, refused-as}
 
--- the condition that a refusal names
-abbrev pub metOf : Refusal → Met
-metOf r = record { number = numberOf r; place = placeOf r }
-
-module _ (a : Operation) (b : List ℕ) (rs vs : List Float) (w : Verdict) (h : refusal rules a (length rs) (length vs) b ≡ metBy w) where
-  pub carried-out : w ≡ Accepted → outcome rules a b rs vs ≡ execute rules a b rs vs
-  unfolding outcome unless
-  carried-out e = ap (λ (q : Option Met). unless q (refuse b rs vs) (execute rules a b rs vs)) (h ∙ ap metBy e)
-
-  pub refused-as : (r : Refusal) → w ≡ Refused r → outcome rules a b rs vs ≡ refuse b rs vs (metOf r)
-  unfolding outcome unless
-  refused-as r e = ap (λ (q : Option Met). unless q (refuse b rs vs) (execute rules a b rs vs)) (h ∙ ap metBy e)
+-- ---- What the loops leave is what opening and replacing leave
 
 module _ (s : Settings) (b : List ℕ) where
-  -- the values that opening and replacing leave
-  pub values-opened : (rs vs : List Float) → openValues rules s b rs vs ≡ fill 5 (valuesIn s b (layoutOf b) rs) 1 (layoutOf b .n - 1) vs
-  unfolding openValues openStart openMade valueFrom reach
+  pub records-opened : (rs : List Float) → openRecords s b rs ≡ filled b (layoutOf b) s rs
+  unfolding openRecords openStart openMade filled filledRange
+  records-opened rs = refl
+
+  pub values-opened : (rs vs : List Float) → openValues s b rs vs ≡ fill valueWidth (valuesIn s b (layoutOf b) rs) 1 (layoutOf b .n - 1) vs
+  unfolding openValues openStart openMade
   values-opened rs vs = refl
 
+  pub records-edited : (k : ℕ) (rs : List Float) → editRecords s b k rs ≡ filledRange b (layoutOf b) s (max 1 k) (min (k + 3) (layoutOf b .n)) rs
+  unfolding editRecords recordsStart recordsMade filledRange
+  records-edited k rs = refl
+
   pub values-edited : (k : ℕ) (rs vs : List Float)
-      → editValues rules s b k rs vs ≡ fill 5 (valuesIn s b (layoutOf b) rs) (max 1 (k - 1)) (min (k + 34) (layoutOf b .n) - max 1 (k - 1)) vs
-  unfolding editValues valuesStart valuesMade valueFrom reach
+      → editValues s b k rs vs ≡ fill valueWidth (valuesIn s b (layoutOf b) rs) (max 1 (k - 1)) (min (k + 34) (layoutOf b .n) - max 1 (k - 1)) vs
+  unfolding editValues valuesStart valuesMade
   values-edited k rs vs = refl
 
+-- ---- Opening
+
 module _ (b : List ℕ) (rs vs : List Float) where
-  abbrev untouched : Opened
-  untouched = record { chart = b; records = rs; values = vs }
+  pub opening-is : (v : Verdict) → v ≡ opening (length rs) (length vs) b → v ≡ openAnswer (state b rs vs)
+  unfolding openAnswer
+  opening-is v e = e
 
-  pub open-refused : (r : Refusal) → verdict b (entriesOf (length rs) (length vs)) ≡ Refused r → openOutcome rules b rs vs ≡ (some (metOf r), untouched)
-  unfolding openOutcome unless
-  open-refused r e =
-      let q = opening-verdict valuesOf (length rs) (length vs) b ∙ ap metBy e in
-      ap (λ (x : Option Met). (x, unless x (λ m. untouched) (opened rules b rs vs))) q
+  pub open-refused : (r : Refusal) → opening (length rs) (length vs) b ≡ Refused r → openLeaves (state b rs vs) ≡ state b rs vs
+  unfolding openLeaves openAnswer ifAccepted
+  open-refused r e = ap (λ (v : Verdict). ifAccepted v (opened (state b rs vs)) (λ q. state b rs vs)) e
 
-  pub open-accepted : verdict b (entriesOf (length rs) (length vs)) ≡ Accepted → openOutcome rules b rs vs ≡ (none, opened rules b rs vs)
-  unfolding openOutcome unless
-  open-accepted e =
-      let q = opening-verdict valuesOf (length rs) (length vs) b ∙ ap metBy e in
-      ap (λ (x : Option Met). (x, unless x (λ m. untouched) (opened rules b rs vs))) q
+  pub open-accepted : opening (length rs) (length vs) b ≡ Accepted → openLeaves (state b rs vs) ≡ opened (state b rs vs)
+  unfolding openLeaves openAnswer ifAccepted
+  open-accepted e = ap (λ (v : Verdict). ifAccepted v (opened (state b rs vs)) (λ q. state b rs vs)) e
+
+  -- ---- Replacing
+
+  module _ (k : ℕ) (o : List ℕ) where
+    pub replace-refused : (r : Refusal) → replaceVerdict b k o (entriesOf (length rs) (length vs)) ≡ Refused r
+        → outcome (replace k o) (state b rs vs) ≡ result (refused r) b rs vs
+    unfolding verdictIn refusal refuse
+    replace-refused r e = refused-as (replace k o) (state b rs vs) r e
+
+    -- what it leaves of the tables, b' being the chart after it
+    abbrev brought : List ℕ → Outcome
+    brought b' =
+        let rs' = editRecords (settingsOf b') b' k rs in
+        result replaced b' rs' (editValues (settingsOf b') b' k rs' vs)
+
+    pub replace-accepted : replaceVerdict b k o (entriesOf (length rs) (length vs)) ≡ Accepted → outcome (replace k o) (state b rs vs) ≡ brought (putObject k o b)
+    unfolding verdictIn refusal execute edited
+    replace-accepted e = carried-out (replace k o) (state b rs vs) e
+
+-- ---- Readings
+
+module _ (b : List ℕ) (t : List Float) (k : ℕ) where
+  pub record-refused : (r : Refusal) → readVerdict b (recordEntries (length t)) k ≡ Refused r → outcome (readRecord k) (state b t []) ≡ result (refused r) b t []
+  unfolding verdictIn refusal refuse
+  record-refused r e = refused-as (readRecord k) (state b t []) r e
+
+  pub record-read : readVerdict b (recordEntries (length t)) k ≡ Accepted → outcome (readRecord k) (state b t []) ≡ result (recordIs (recordAt t k)) b t []
+  unfolding verdictIn refusal execute
+  record-read e = carried-out (readRecord k) (state b t []) e
+
+  pub values-refused : (r : Refusal) → readVerdict b (valueEntries (length t)) k ≡ Refused r → outcome (readValues k) (state b [] t) ≡ result (refused r) b [] t
+  unfolding verdictIn refusal refuse
+  values-refused r e = refused-as (readValues k) (state b [] t) r e
+
+  pub values-read : readVerdict b (valueEntries (length t)) k ≡ Accepted → outcome (readValues k) (state b [] t) ≡ result (valuesAre (row valueWidth t k)) b [] t
+  unfolding verdictIn refusal execute
+  values-read e = carried-out (readValues k) (state b [] t) e
+
+-- ---- Totals
+
+module _ (b : List ℕ) (vs : List Float) (x : Scratch) where
+  abbrev asked : Verdict
+  asked = figureVerdict b (valueEntries (length vs)) (scratchShort (lengths x))
+
+  pub totals-refused : (r : Refusal) → asked ≡ Refused r
+      → (outcome (figure totals (lengths x)) (state b [] vs) ≡ result (refused r) b [] vs) × (scratchAfter totals (state b [] vs) x ≡ x)
+  unfolding verdictIn refusal refuse scratchAfter ifAccepted
+  totals-refused r e = (refused-as (figure totals (lengths x)) (state b [] vs) r e, ap (λ (v : Verdict). ifAccepted v (cleared x) (λ q. x)) e)
+
+  pub totals-carried-out : asked ≡ Accepted
+      → (outcome (figure totals (lengths x)) (state b [] vs) ≡ result (figureIs (totalsAre (Chart.totalsOf b (layoutOf b) (settingsOf b .«clock_rate») vs))) b [] vs)
+      × (scratchAfter totals (state b [] vs) x ≡ cleared x)
+  unfolding verdictIn refusal execute figureOf scratchAfter ifAccepted
+  totals-carried-out e = (carried-out (figure totals (lengths x)) (state b [] vs) e, ap (λ (v : Verdict). ifAccepted v (cleared x) (λ q. x)) e)

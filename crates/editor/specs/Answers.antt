@@ -1,12 +1,12 @@
 -- What each call's answer stands for among the answers of crate calls. Definitions only.
 use mathlib.Core.List.{List}
 use lib.Ieee.{Float}
-use Rattle.opening.specs.Verdict.{numberOf, placeOf}
-use Rattle.opening.specs.declared.Refusal.{Refusal}
 use Rattle.opening.specs.declared.Verdict.{Verdict}
 use Rattle.opening.specs.declared.Verdict.the-variants.{Accepted, Refused}
 use Rattle.evaluators.specs.Values.{rowOf}
-use Rattle.calls.specs.Calls.{Answer, refused, replaced, recordIs, valueIs, totalsAre, Scratch}
+use Rattle.calls.specs.Afresh.{totalsAre}
+use Rattle.calls.specs.Conditions.{Scratch}
+use Rattle.calls.specs.Calls.{Answer, refused, replaced, recordIs, valuesAre, figureIs}
 use Rattle.editor.specs.declared.RecordAnswer.{RecordAnswer}
 use Rattle.editor.specs.declared.RecordAnswer.the-variants as OfRecord
 use Rattle.editor.specs.declared.ValuesAnswer.{ValuesAnswer}
@@ -14,26 +14,22 @@ use Rattle.editor.specs.declared.ValuesAnswer.the-variants as OfValues
 use Rattle.editor.specs.declared.TotalsAnswer.{TotalsAnswer}
 use Rattle.editor.specs.declared.TotalsAnswer.the-variants as OfTotals
 
--- document 01's number and place
-abbrev pub refusedBy : Refusal → Answer
-refusedBy r = refused (record { number = numberOf r; place = placeOf r })
-
 abbrev pub replaceAnswer : Verdict → Answer
 replaceAnswer Accepted = replaced
-replaceAnswer (Refused r) = refusedBy r
+replaceAnswer (Refused r) = refused r
 
 abbrev pub recordAnswer : RecordAnswer → Answer
 recordAnswer (OfRecord.Record x) = recordIs x
-recordAnswer (OfRecord.Refused r) = refusedBy r
+recordAnswer (OfRecord.Refused r) = refused r
 
 abbrev pub valuesAnswer : ValuesAnswer → Answer
-valuesAnswer (OfValues.Values v) = valueIs (rowOf v)
-valuesAnswer (OfValues.Refused r) = refusedBy r
+valuesAnswer (OfValues.Values v) = valuesAre (rowOf v)
+valuesAnswer (OfValues.Refused r) = refused r
 
 abbrev pub totalsAnswer : TotalsAnswer → Answer
-totalsAnswer (OfTotals.Totals t) = totalsAre t
-totalsAnswer (OfTotals.Refused r) = refusedBy r
+totalsAnswer (OfTotals.Totals t) = figureIs (totalsAre t)
+totalsAnswer (OfTotals.Refused r) = refused r
 
 -- the four slices of scratch
 abbrev pub scratchOf : List Float → List Float → List Float → List Float → Scratch
-scratchOf aim still speed light = record { aim = aim; aimNoSliders = still; speed = speed; flashlight = light }
+scratchOf aim aimNoSliders speed flashlight = record { aim = aim; aimNoSliders = aimNoSliders; speed = speed; flashlight = flashlight }

@@ -2,18 +2,15 @@
 // that is met and changes nothing, or is carried out.
 ghost use mathlib.Core.Path.{_≡_};
 ghost use mathlib.Core.List.{[]};
-ghost use Prim.Native.Nat.{_+_, _*_, _/_, _-_, _<_, _≤_, min, max};
+ghost use Prim.Native.Nat.{_-_, _<_, min, max};
 ghost use lib.ListN.{length};
-ghost use Rattle.tables.specs.Parts.{row};
-ghost use Rattle.evaluators.specs.Values.{rowOf};
 ghost use Rattle.opening.specs.Header.{layoutOf, settingsOf};
-ghost use Rattle.opening.specs.Verdict.{verdict};
 ghost use Rattle.opening.specs.declared.Verdict.the-variants.{Accepted};
-ghost use Rattle.calls.specs.Conditions as conditions;
-ghost use Rattle.calls.specs.Conditions.{scratchShort};
-ghost use Rattle.calls.specs.Calls.{outcome, opened, openOutcome, totalsOutcome, editRecords, editValues};
-ghost use Rattle.calls.specs.Verdicts.{metBy, entriesOf, readVerdict, totalsVerdict};
-ghost use Rattle.editor.specs.Rules.{rules};
+ghost use Rattle.calls.specs.Tables.{entriesOf};
+ghost use Rattle.calls.specs.Afresh as figures;
+ghost use Rattle.calls.specs.Conditions as ops;
+ghost use Rattle.calls.specs.Conditions.{lengths, scratchShort, readVerdict, figureVerdict, opening};
+ghost use Rattle.calls.specs.Calls.{state, result, opened, openAnswer, openLeaves, outcome, scratchAfter, editRecords, editValues};
 ghost use Rattle.editor.specs.Answers.{replaceAnswer, recordAnswer, valuesAnswer, totalsAnswer, scratchOf};
 use evaluators::Values;
 use object::OsuDifficultyObject;
@@ -39,11 +36,21 @@ pub enum TotalsAnswer {
     Refused(Refusal),
 }
 
+// Numbers of an entry of each table, and the least scratch of a skill.
+pub const RECORD_WIDTH: usize = 16;
+
+pub const VALUE_WIDTH: usize = 5;
+
+pub const LEAST_SCRATCH: usize = 8192;
+
+// Where the settings stand in a header.
+const SETTINGS_AT: usize = 32;
+
 // How many whole entries both tables have.
 fn entries_in(records: usize, values: usize) -> usize
     ensures { λ r. ⌜ r ≡ entriesOf records values ⌝ }
 {
-    smaller(records / 16, values / 5)
+    smaller(records / RECORD_WIDTH, values / VALUE_WIDTH)
 }
 
 // The later of 1 and k.
@@ -68,21 +75,21 @@ fn before(k: usize) -> usize
 
 // Fills entries 1 to N - 1 of an accepted chart's tables.
 fn fill_tables(chart: &[u8], records: &mut [f64], values: &mut [f64])
-    requires { ⌜ verdict (now chart) (entriesOf (length (now records)) (length (now values))) ≡ Accepted ⌝ }
-    ensures records { λ _. ⌜ now (records .exit) ≡ opened rules (now (chart .entry)) (now (records .entry)) (now (values .entry)) .records ⌝ }
-    ensures values { λ _. ⌜ now (values .exit) ≡ opened rules (now (chart .entry)) (now (records .entry)) (now (values .entry)) .values ⌝ }
+    requires { ⌜ opening (length (now records)) (length (now values)) (now chart) ≡ Accepted ⌝ }
+    ensures records { λ _. ⌜ now (records .exit) ≡ opened (state (now (chart .entry)) (now (records .entry)) (now (values .entry))) .records ⌝ }
+    ensures values { λ _. ⌜ now (values .exit) ≡ opened (state (now (chart .entry)) (now (records .entry)) (now (values .entry))) .values ⌝ }
 {
     let lay = opening::layout_of(chart);
-    let set = opening::settings_at(chart, 32);
+    let set = opening::settings_at(chart, SETTINGS_AT);
     records::fill(chart, lay, set, records);
     evaluators::fill_values(values, records, chart, lay, set, 1, lay.n);
 }
 
 // Checks a chart and fills its tables.
 pub fn open(chart: &[u8], records: &mut [f64], values: &mut [f64]) -> Verdict
-    ensures answer { λ r. ⌜ metBy r ≡ openOutcome rules (now (chart .entry)) (now (records .entry)) (now (values .entry)) .0 ⌝ }
-    ensures records { λ _. ⌜ now (records .exit) ≡ openOutcome rules (now (chart .entry)) (now (records .entry)) (now (values .entry)) .1 .records ⌝ }
-    ensures values { λ _. ⌜ now (values .exit) ≡ openOutcome rules (now (chart .entry)) (now (records .entry)) (now (values .entry)) .1 .values ⌝ }
+    ensures answer { λ r. ⌜ r ≡ openAnswer (state (now (chart .entry)) (now (records .entry)) (now (values .entry))) ⌝ }
+    ensures leaves { λ _. ⌜ state (now (chart .exit)) (now (records .exit)) (now (values .exit))
+        ≡ openLeaves (state (now (chart .entry)) (now (records .entry)) (now (values .entry))) ⌝ }
 {
     match opening::check(chart, entries_in(records.len(), values.len())) {
         Verdict::Refused(r) => Verdict::Refused(r),
@@ -95,12 +102,13 @@ pub fn open(chart: &[u8], records: &mut [f64], values: &mut [f64]) -> Verdict
 
 // Makes anew what an object put at a place can have changed: records k to k + 2 from the chart, and values k - 1 to k + 33 from the records.
 fn bring_up_to_date(chart: &[u8], place: usize, records: &mut [f64], values: &mut [f64])
-    requires { ⌜ (verdict (now chart) (entriesOf (length (now records)) (length (now values))) ≡ Accepted) × (place < layoutOf (now chart) .n) ⌝ }
-    ensures records { λ _. ⌜ now (records .exit) ≡ editRecords rules (settingsOf (now (chart .entry))) (now (chart .entry)) place (now (records .entry)) ⌝ }
-    ensures values { λ _. ⌜ now (values .exit) ≡ editValues rules (settingsOf (now (chart .entry))) (now (chart .entry)) place (now (records .exit)) (now (values .entry)) ⌝ }
+    requires { ⌜ (opening (length (now records)) (length (now values)) (now chart) ≡ Accepted) × (place < layoutOf (now chart) .n) ⌝ }
+    ensures records { λ _. ⌜ now (records .exit) ≡ editRecords (settingsOf (now (chart .entry))) (now (chart .entry)) place (now (records .entry)) ⌝ }
+    ensures values { λ _. ⌜ now (values .exit)
+        ≡ editValues (settingsOf (now (chart .entry))) (now (chart .entry)) place (now (records .exit)) (now (values .entry)) ⌝ }
 {
     let lay = opening::layout_of(chart);
-    let set = opening::settings_at(chart, 32);
+    let set = opening::settings_at(chart, SETTINGS_AT);
     let n = lay.n;
     records::fill_range(
         chart,
@@ -130,10 +138,9 @@ pub fn replace(
     records: &mut [f64],
     values: &mut [f64],
 ) -> Verdict
-    ensures answer { λ r. ⌜ replaceAnswer r ≡ outcome rules (conditions.replace place (now (object .entry))) (now (chart .entry)) (now (records .entry)) (now (values .entry)) .answer ⌝ }
-    ensures chart { λ _. ⌜ now (chart .exit) ≡ outcome rules (conditions.replace place (now (object .entry))) (now (chart .entry)) (now (records .entry)) (now (values .entry)) .chart ⌝ }
-    ensures records { λ _. ⌜ now (records .exit) ≡ outcome rules (conditions.replace place (now (object .entry))) (now (chart .entry)) (now (records .entry)) (now (values .entry)) .records ⌝ }
-    ensures values { λ _. ⌜ now (values .exit) ≡ outcome rules (conditions.replace place (now (object .entry))) (now (chart .entry)) (now (records .entry)) (now (values .entry)) .values ⌝ }
+    ensures { λ r. ⌜ result (replaceAnswer r) (now (chart .exit)) (now (records .exit)) (now (values .exit))
+        ≡ outcome (ops.replace place (now (object .entry))) (state (now (chart .entry)) (now (records .entry)) (now (values .entry))) ⌝ }
+    ensures object { λ _. ⌜ now (object .exit) ≡ now (object .entry) ⌝ }
 {
     match replacing::replace(
         chart,
@@ -168,9 +175,10 @@ fn check_reading(chart: &[u8], entries: usize, place: usize) -> Verdict
 
 // The record of a place, as the table has it.
 pub fn read_record(chart: &[u8], records: &[f64], place: usize) -> RecordAnswer
-    ensures { λ r. ⌜ recordAnswer r ≡ outcome rules (conditions.readRecord place) (now (chart .entry)) (now (records .entry)) [] .answer ⌝ }
+    ensures { λ r. ⌜ result (recordAnswer r) (now (chart .exit)) (now (records .exit)) []
+        ≡ outcome (ops.readRecord place) (state (now (chart .entry)) (now (records .entry)) []) ⌝ }
 {
-    match check_reading(chart, records.len() / 16, place) {
+    match check_reading(chart, records.len() / RECORD_WIDTH, place) {
         Verdict::Refused(r) => RecordAnswer::Refused(r),
         Verdict::Accepted => RecordAnswer::Record(records::record_at(records, place)),
     }
@@ -178,9 +186,10 @@ pub fn read_record(chart: &[u8], records: &[f64], place: usize) -> RecordAnswer
 
 // The values of a place, as the table has them.
 pub fn read_values(chart: &[u8], values: &[f64], place: usize) -> ValuesAnswer
-    ensures { λ r. ⌜ valuesAnswer r ≡ outcome rules (conditions.readValue place) (now (chart .entry)) [] (now (values .entry)) .answer ⌝ }
+    ensures { λ r. ⌜ result (valuesAnswer r) (now (chart .exit)) [] (now (values .exit))
+        ≡ outcome (ops.readValues place) (state (now (chart .entry)) [] (now (values .entry))) ⌝ }
 {
-    match check_reading(chart, values.len() / 5, place) {
+    match check_reading(chart, values.len() / VALUE_WIDTH, place) {
         Verdict::Refused(r) => ValuesAnswer::Refused(r),
         Verdict::Accepted => ValuesAnswer::Values(evaluators::row_at(values, place)),
     }
@@ -188,14 +197,16 @@ pub fn read_values(chart: &[u8], values: &[f64], place: usize) -> ValuesAnswer
 
 // Whether a slice of scratch is too short.
 fn scratch_short(aim: usize, aim_no_sliders: usize, speed: usize, flashlight: usize) -> bool
-    ensures { λ r. ⌜ r ≡ scratchShort aim «aim_no_sliders» speed flashlight ⌝ }
+    ensures { λ r. ⌜ r ≡ scratchShort (record { aim = aim; aimNoSliders = «aim_no_sliders»; speed = speed; flashlight = flashlight }) ⌝ }
 {
-    (aim < 8192) | ((aim_no_sliders < 8192) | ((speed < 8192) | (flashlight < 8192)))
+    (aim < LEAST_SCRATCH)
+        | ((aim_no_sliders < LEAST_SCRATCH)
+            | ((speed < LEAST_SCRATCH) | (flashlight < LEAST_SCRATCH)))
 }
 
-// Conditions 1 to 7 of totals, for a table of as many entries.
-fn check_totals(chart: &[u8], entries: usize, short: bool) -> Verdict
-    ensures { λ r. ⌜ r ≡ totalsVerdict (now (chart .entry)) entries short ⌝ }
+// Conditions 1 to 7 of a figure, for a value table of as many entries.
+pub fn check_figure(chart: &[u8], entries: usize, short: bool) -> Verdict
+    ensures { λ r. ⌜ r ≡ figureVerdict (now (chart .entry)) entries short ⌝ }
 {
     match opening::check(chart, entries) {
         Verdict::Refused(r) => Verdict::Refused(r),
@@ -218,11 +229,12 @@ pub fn totals(
     speed: &mut [f64],
     flashlight: &mut [f64],
 ) -> TotalsAnswer
-    ensures answer { λ r. ⌜ totalsAnswer r ≡ totalsOutcome rules (scratchOf (now (aim .entry)) (now («aim_no_sliders» .entry)) (now (speed .entry)) (now (flashlight .entry))) (now (chart .entry)) (now (values .entry)) .0 .answer ⌝ }
-    ensures aim { λ _. ⌜ now (aim .exit) ≡ totalsOutcome rules (scratchOf (now (aim .entry)) (now («aim_no_sliders» .entry)) (now (speed .entry)) (now (flashlight .entry))) (now (chart .entry)) (now (values .entry)) .1 .aim ⌝ }
-    ensures still { λ _. ⌜ now («aim_no_sliders» .exit) ≡ totalsOutcome rules (scratchOf (now (aim .entry)) (now («aim_no_sliders» .entry)) (now (speed .entry)) (now (flashlight .entry))) (now (chart .entry)) (now (values .entry)) .1 .aimNoSliders ⌝ }
-    ensures speed { λ _. ⌜ now (speed .exit) ≡ totalsOutcome rules (scratchOf (now (aim .entry)) (now («aim_no_sliders» .entry)) (now (speed .entry)) (now (flashlight .entry))) (now (chart .entry)) (now (values .entry)) .1 .speed ⌝ }
-    ensures light { λ _. ⌜ now (flashlight .exit) ≡ totalsOutcome rules (scratchOf (now (aim .entry)) (now («aim_no_sliders» .entry)) (now (speed .entry)) (now (flashlight .entry))) (now (chart .entry)) (now (values .entry)) .1 .flashlight ⌝ }
+    ensures answer { λ r. ⌜ result (totalsAnswer r) (now (chart .exit)) [] (now (values .exit))
+        ≡ outcome (ops.figure figures.totals (lengths (scratchOf (now (aim .entry)) (now («aim_no_sliders» .entry)) (now (speed .entry)) (now (flashlight .entry)))))
+        (state (now (chart .entry)) [] (now (values .entry))) ⌝ }
+    ensures scratch { λ _. ⌜ scratchOf (now (aim .exit)) (now («aim_no_sliders» .exit)) (now (speed .exit)) (now (flashlight .exit))
+        ≡ scratchAfter figures.totals (state (now (chart .entry)) [] (now (values .entry)))
+        (scratchOf (now (aim .entry)) (now («aim_no_sliders» .entry)) (now (speed .entry)) (now (flashlight .entry))) ⌝ }
 {
     let short = scratch_short(
         aim.len(),
@@ -230,11 +242,11 @@ pub fn totals(
         speed.len(),
         flashlight.len(),
     );
-    match check_totals(chart, values.len() / 5, short) {
+    match check_figure(chart, values.len() / VALUE_WIDTH, short) {
         Verdict::Refused(r) => TotalsAnswer::Refused(r),
         Verdict::Accepted => {
             let lay = opening::layout_of(chart);
-            let clock = opening::settings_at(chart, 32).clock_rate;
+            let clock = opening::settings_at(chart, SETTINGS_AT).clock_rate;
             let t = skills::totals(
                 chart,
                 lay,

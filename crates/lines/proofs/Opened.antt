@@ -8,7 +8,7 @@ use lib.ListN.{length}
 use Rattle.objects.specs.Objects.{Holds}
 use Rattle.objects.specs.declared.Layout.{Layout}
 use Rattle.opening.specs.Header.{layoutOf}
-use Rattle.opening.specs.Verdict.{verdict}
+use Rattle.opening.specs.Conditions.{openVerdict}
 use Rattle.opening.specs.declared.Verdict.{Verdict}
 use Rattle.opening.specs.declared.Verdict.the-variants.{Accepted}
 use Rattle.opening.proofs.Header.{parts, holds}
@@ -24,7 +24,7 @@ pub record Fits (s : List ℕ) (entries : ℕ) (lay : Layout) : Type 0 where
   pub value-room : (v : ℕ) → 5 * entries ≤ v → 5 * lay .n ≤ v
   pub readable : (values : List Float) → 5 * lay .n ≤ length values → Readable s lay values
 
-module _ (s : List ℕ) (entries : ℕ) (v : Verdict) (e : v ≡ verdict s entries) (a : v ≡ Accepted) where
+module _ (s : List ℕ) (entries : ℕ) (v : Verdict) (e : v ≡ openVerdict s entries) (a : v ≡ Accepted) where
   told : Opened s entries
   told = opened s entries (sym e ∙ a)
 

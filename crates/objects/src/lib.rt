@@ -7,6 +7,11 @@ ghost use Rattle.objects.specs.Limits.{objectSize};
 ghost use Rattle.objects.specs.Search.{firstBelow};
 ghost use Rattle.objects.specs.Objects.{Holds, fieldsAt, fieldsOf, timeOk, coordinateOk, stackOk, countOk, plainOk, sliderOk, kindOk, fieldsOk, badFields, falls};
 
+// The bytes of a chart's header, and of an object.
+pub const HEADER_SIZE: usize = 80;
+
+pub const OBJECT_SIZE: usize = 56;
+
 // The counts of a chart, an object's size in bytes, and the offsets of the two tables behind the objects: read from the header once.
 pub struct Layout {
     pub n: usize,
@@ -59,7 +64,7 @@ pub fn fields_of(chart: &[u8], lay: Layout, i: usize) -> Fields
     requires { ⌜ Holds (now chart) lay × (i < lay .n) ⌝ }
     ensures { λ r. ⌜ r ≡ fieldsOf (now (chart .entry)) lay i ⌝ }
 {
-    fields_at(chart, 80 + lay.object_size * i)
+    fields_at(chart, HEADER_SIZE + lay.object_size * i)
 }
 
 // Whether t is a time: 0 to 10,000,000 ms.

@@ -7,7 +7,7 @@ ghost use Rattle.objects.specs.Limits.{headerSize, pointSize};
 ghost use Rattle.objects.specs.Objects.{Holds};
 ghost use Rattle.opening.specs.Limits.{settingsSize};
 ghost use Rattle.opening.specs.Header.{layoutOf, countsOk, offsetsOk, reservedOk, headerOk, settingsAt, settingsOk, farApart, tooLong};
-ghost use Rattle.opening.specs.Verdict.{numberOf, placeOf, bodyVerdict, verdict};
+ghost use Rattle.opening.specs.Conditions.{refusalNumber, refusalPlace, firstOf, bodyConditions, openVerdict};
 use objects::Layout;
 
 // A chart's settings, the flags taken apart.
@@ -43,7 +43,7 @@ pub enum Verdict {
 impl Refusal {
     // The number of the condition.
     pub fn number(self) -> usize
-        ensures { λ r. ⌜ r ≡ numberOf self ⌝ }
+        ensures { λ r. ⌜ r ≡ refusalNumber self ⌝ }
     {
         match self {
             Refusal::Header => 1,
@@ -59,7 +59,7 @@ impl Refusal {
 
     // The offending place, 0 where the condition has none.
     pub fn place(self) -> usize
-        ensures { λ r. ⌜ r ≡ placeOf self ⌝ }
+        ensures { λ r. ⌜ r ≡ refusalPlace self ⌝ }
     {
         match self {
             Refusal::Object(i) => i,
@@ -82,12 +82,12 @@ pub fn layout_of(s: &[u8]) -> Layout
     let n = floats::u32_at(s, 0) as usize;
     let nested = floats::u32_at(s, 4) as usize;
     let points = floats::u32_at(s, 8) as usize;
-    let nested_at = 80 + 56 * n;
+    let nested_at = objects::HEADER_SIZE + objects::OBJECT_SIZE * n;
     Layout {
         n: n,
         nested: nested,
         points: points,
-        object_size: 56,
+        object_size: objects::OBJECT_SIZE,
         nested_at: nested_at,
         points_at: nested_at + 24 * nested,
     }
@@ -105,7 +105,7 @@ fn offsets_ok(s: &[u8], lay: Layout) -> bool
     requires { ⌜ (headerSize ≤ length (now s)) × (lay .«points_at» + pointSize * lay .points < 2 ^ 64) ⌝ }
     ensures { λ r. ⌜ r ≡ offsetsOk (now (s .entry)) lay ⌝ }
 {
-    (floats::count_at(s, 12) == 80)
+    (floats::count_at(s, 12) == objects::HEADER_SIZE)
         & (floats::count_at(s, 16) == lay.nested_at)
         & (floats::count_at(s, 20) == lay.points_at)
         & (floats::count_at(s, 24) == s.len())
@@ -124,7 +124,7 @@ fn reserved_ok(s: &[u8]) -> bool
 pub fn header_ok(s: &[u8]) -> bool
     ensures { λ r. ⌜ r ≡ headerOk (now (s .entry)) ⌝ }
 {
-    if s.len() < 80 {
+    if s.len() < objects::HEADER_SIZE {
         return false;
     }
     let lay = layout_of(s);
@@ -188,7 +188,7 @@ fn too_long(chart: &[u8], lay: Layout, clock: f64) -> bool
 // Conditions 3 to 6, each over the whole chart before the next.
 pub fn check_body(chart: &[u8], lay: Layout, clock: f64) -> Verdict
     requires { ⌜ Holds (now chart) lay ⌝ }
-    ensures { λ r. ⌜ r ≡ bodyVerdict (now (chart .entry)) lay clock ⌝ }
+    ensures { λ r. ⌜ r ≡ firstOf (bodyConditions (now (chart .entry)) lay clock) ⌝ }
 {
     let n = lay.n;
     let object = objects::first_bad_fields(chart, lay);
@@ -209,9 +209,9 @@ pub fn check_body(chart: &[u8], lay: Layout, clock: f64) -> Verdict
     Verdict::Accepted
 }
 
-// Conditions 1 to 7; entries is the length of the shortest lent table.
+// Conditions 1 to 7; entries is the number of entries of the shortest table.
 pub fn check(chart: &[u8], entries: usize) -> Verdict
-    ensures { λ r. ⌜ r ≡ verdict (now (chart .entry)) entries ⌝ }
+    ensures { λ r. ⌜ r ≡ openVerdict (now (chart .entry)) entries ⌝ }
 {
     if !header_ok(chart) {
         return Verdict::Refused(Refusal::Header);

@@ -1,5 +1,5 @@
 pub mod Local
 pub mod Replace
-pub mod Paste
+pub mod Put
 pub mod Replaced
 pub mod Accepted

@@ -1,8 +1,8 @@
 -- Conditions 3 to 6 of a chart with one object replaced, from the chart as it was and the new object's fields. Where the old chart meets none
--- of them, this is `bodyVerdict` of the new one: only what the new object can have changed is tested. Definitions only.
+-- of them, the first that is met here is the first of the new one's: only what the new object can have changed is tested. Definitions only.
 use Prim.Native.Nat.{ℕ, _+_, _-_}
 use mathlib.Core.Bool.{Bool, not, cond, _&&_}
-use mathlib.Core.List.{List}
+use mathlib.Core.List.{List, [], _∷_}
 use lib.Dec.{leb, ltb, eqb}
 use lib.Ieee as Ieee
 use lib.Ieee.{Float}
@@ -11,10 +11,9 @@ use Rattle.objects.specs.declared.Fields.{Fields}
 use Rattle.objects.specs.declared.Layout.{Layout}
 use Rattle.entries.specs.Entries.{wrongEntries}
 use Rattle.opening.specs.Header.{farApart}
-use Rattle.opening.specs.Verdict.{andThen}
+use Rattle.opening.specs.Conditions.{refuseIf}
 use Rattle.opening.specs.declared.Refusal.the-variants.{Object, Entries, Order, Length}
 use Rattle.opening.specs.declared.Verdict.{Verdict}
-use Rattle.opening.specs.declared.Verdict.the-variants.{Accepted, Refused}
 
 -- condition 5 at the new object's place: it starts before its predecessor
 unfoldable pub fallsHere : List ℕ → Layout → ℕ → Fields → Bool
@@ -32,10 +31,11 @@ newStart s lay place f j = cond (eqb j place) (f .start) (fieldsOf s lay j .star
 unfoldable pub newTooLong : List ℕ → Layout → Float → ℕ → Fields → Bool
 newTooLong s lay clock place f = leb 2 (lay .n) && farApart (newStart s lay place f (lay .n - 1)) (newStart s lay place f 1) clock
 
-unfoldable pub newVerdict : List ℕ → Layout → Float → ℕ → Fields → Verdict
-newVerdict s lay clock place f =
-    andThen (cond (not (fieldsOk f)) (Refused (Object place)) Accepted)
-    (andThen (cond (wrongEntries s lay f) (Refused (Entries place)) Accepted)
-    (andThen (cond (fallsHere s lay place f) (Refused (Order place)) Accepted)
-    (andThen (cond (fallsNext s lay place f) (Refused (Order (place + 1))) Accepted)
-    (cond (newTooLong s lay clock place f) (Refused Length) Accepted))))
+unfoldable pub newConditions : List ℕ → Layout → Float → ℕ → Fields → List Verdict
+newConditions s lay clock place f =
+    refuseIf (not (fieldsOk f)) (Object place)
+    ∷ refuseIf (wrongEntries s lay f) (Entries place)
+    ∷ refuseIf (fallsHere s lay place f) (Order place)
+    ∷ refuseIf (fallsNext s lay place f) (Order (place + 1))
+    ∷ refuseIf (newTooLong s lay clock place f) Length
+    ∷ []

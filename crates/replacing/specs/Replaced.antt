@@ -1,14 +1,15 @@
--- The chart with one object replaced: that object is the lent one (`here`), every other object (`elsewhere`), every nested entry and point
--- (`entries`), and the header with its settings (`layout`, `settings`, `header`) are as they were. Assumes nothing.
+-- The chart with one object replaced: that object is the lent one (`place-put`, `here`), every other object (`place-kept`, `elsewhere`), the header with its settings
+-- (`header-kept`, `layout`, `settings`, `header`) and what follows the objects (`rest-kept`, `entries`) are as they were. Assumes nothing.
 use Prim.Native.Nat.{ℕ, suc, _+_, _*_, _≤_, _<_}
-use mathlib.Core.Path.{_≡_}
+use mathlib.Core.Path.{_≡_, sym, ap, _∙_}
 use mathlib.Core.List.{List}
-use lib.ListN.{length}
-use lib.Seq.{length-paste}
-use native.Mathlib.Decide.{decLe}
+use lib.ListN.{length, take, drop}
+use native.Mathlib.Decide.{decLt}
 use native.Mathlib.Nat.{le-refl}
 use native.Mathlib.Omega.{arith}
 use Rattle.floats.specs.Same.{Same}
+use Rattle.tables.specs.Parts.{part, put}
+use Rattle.tables.specs.Rows.{length-put, take-put, drop-put, part-put-same, part-put-before, part-put-after}
 use Rattle.objects.specs.Limits.{headerSize, nestedSize, pointSize}
 use Rattle.objects.specs.Objects.{Holds, objectAt, fieldsAt, fieldsOf}
 use Rattle.objects.specs.Place.{place-within}
@@ -18,69 +19,85 @@ use Rattle.entries.specs.Entries.{nestedOf, pointOf}
 use Rattle.entries.specs.Same.{nested-same, point-same, SameEntries}
 use Rattle.opening.specs.Header.{layoutOf, headerOk, settingsOf}
 use Rattle.opening.specs.Same.{layout-of-same, settings-of-same, header-same}
-use Rattle.replacing.specs.Paste.{same-inside, same-before, same-after}
-use Rattle.replacing.specs.Replace.{withObject}
+use Rattle.replacing.specs.Put.{part-same, rest-same, same-inside}
+use Rattle.replacing.specs.Replace.{objectBytes, putObject}
 
-module _ (s : List ℕ) (lay : Layout) (place : ℕ) (object : List ℕ) (H : Holds s lay) (hp : place < lay .n) (ho : lay .«object_size» ≤ length object) where
+module _ (s : List ℕ) (place : ℕ) (object : List ℕ)
+    (H : Holds s (layoutOf s)) (hp : place < layoutOf s .n) (ho : length object ≡ layoutOf s .«object_size») where
+  abbrev lay : Layout
+  lay = layoutOf s
+
+  abbrev new : List ℕ
+  new = putObject place object s
+
   -- the place ends before the nested entries, and within the chart
-  ends : objectAt lay place + lay .«object_size» ≤ lay .«nested_at»
-  ends = omega (arith, place-within (lay .«object_size») place (lay .n) hp, H .objects)
+  ends : objectAt lay place + length object ≤ lay .«nested_at»
+  ends = rw ho (omega (arith, place-within (lay .«object_size») place (lay .n) hp, H .objects))
 
-  pub fits : objectAt lay place + lay .«object_size» ≤ length s
+  pub fits : objectAt lay place + length object ≤ length s
   fits = omega (arith, ends, H .nested-in, H .points-in)
 
   -- ---- bytes
-  pub keeps-length : length (withObject s lay place object) ≡ length s
-  unfolding withObject
-  keeps-length = length-paste s (objectAt lay place) object (lay .«object_size») fits ho
+  pub keeps-length : length new ≡ length s
+  unfolding putObject
+  keeps-length = length-put (objectAt lay place) object s fits
 
-  pub same-here : Same (withObject s lay place object) (objectAt lay place) object 0 (lay .«object_size»)
-  unfolding withObject
-  same-here = same-inside s (objectAt lay place) object (lay .«object_size») fits ho
+  pub header-kept : take headerSize new ≡ take headerSize s
+  unfolding putObject
+  header-kept = take-put headerSize (objectAt lay place) object s (omega arith) (omega (arith, fits))
 
-  pub same-elsewhere : (j : ℕ) → (j ≡ place → ⊥) → Same (withObject s lay place object) (objectAt lay j) s (objectAt lay j) (lay .«object_size»)
-  unfolding withObject
-  same-elsewhere j ne = go (decLe (suc j) place)
+  pub rest-kept : drop (lay .«nested_at») new ≡ drop (lay .«nested_at») s
+  unfolding putObject
+  rest-kept = drop-put (lay .«nested_at») (objectAt lay place) object s ends fits
+
+  same-header : Same new 0 s 0 headerSize
+  unfolding part
+  same-header = part-same 0 0 headerSize new s header-kept
+
+  -- ---- the header
+  pub layout : layoutOf new ≡ layoutOf s
+  layout = layout-of-same same-header
+
+  pub settings : settingsOf new ≡ settingsOf s
+  settings = settings-of-same same-header
+
+  pub header : headerOk new ≡ headerOk s
+  header = header-same same-header keeps-length
+
+  -- ---- the objects
+  elsewhere-part : (j : ℕ) → (j ≡ place → ⊥) → part (objectAt lay j) (lay .«object_size») new ≡ part (objectAt lay j) (lay .«object_size») s
+  unfolding putObject
+  elsewhere-part j d = go (decLt j place)
     where
-      go : Dec (suc j ≤ place) → Same (withObject s lay place object) (objectAt lay j) s (objectAt lay j) (lay .«object_size»)
-      go (yes h) =
-          same-before s (objectAt lay place) object (lay .«object_size») fits ho (objectAt lay j) (lay .«object_size»)
-          (omega (arith, place-within (lay .«object_size») j place h))
-      go (no h) =
-          same-after s (objectAt lay place) object (lay .«object_size») fits ho (objectAt lay j) (lay .«object_size»)
-          (omega (arith, place-within (lay .«object_size») place j (omega (arith, ne))))
+      go : Dec (j < place) → part (objectAt lay j) (lay .«object_size») (put (objectAt lay place) object s) ≡ part (objectAt lay j) (lay .«object_size») s
+      go (yes l) =
+          part-put-before (objectAt lay j) (lay .«object_size») (objectAt lay place) object s
+          (omega (arith, place-within (lay .«object_size») j place l)) (omega (arith, fits))
+      go (no l) =
+          part-put-after (objectAt lay j) (lay .«object_size») (objectAt lay place) object s
+          (rw ho (omega (arith, place-within (lay .«object_size») place j (omega (arith, d))))) fits
 
-  pub same-header : Same (withObject s lay place object) 0 s 0 headerSize
-  unfolding withObject
-  same-header = same-before s (objectAt lay place) object (lay .«object_size») fits ho 0 headerSize (omega arith)
+  pub place-put : objectBytes new place ≡ object
+  unfolding objectBytes putObject
+  place-put = rw layout (part-put-same (objectAt lay place) object s (lay .«object_size») ho (rw ho at fits))
 
-  -- from the nested entries to the end
-  pub same-behind : (p m : ℕ) → lay .«nested_at» ≤ p → Same (withObject s lay place object) p s p m
-  unfolding withObject
-  same-behind p m h = same-after s (objectAt lay place) object (lay .«object_size») fits ho p m (omega (arith, ends))
+  pub place-kept : (j : ℕ) → (j ≡ place → ⊥) → objectBytes new j ≡ objectBytes s j
+  unfolding objectBytes
+  place-kept j d = rw layout (elsewhere-part j d)
 
   -- ---- what they hold
-  pub here : fieldsOf (withObject s lay place object) lay place ≡ fieldsAt object 0
-  unfolding fieldsOf
-  here = fields-same same-here (H .size-least)
+  pub here : fieldsOf new lay place ≡ fieldsAt object 0
+  unfolding fieldsOf putObject
+  here = fields-same (same-inside s (objectAt lay place) object fits) (omega (arith, ho, H .size-least))
 
-  pub elsewhere : (j : ℕ) → (j ≡ place → ⊥) → fieldsOf (withObject s lay place object) lay j ≡ fieldsOf s lay j
+  pub elsewhere : (j : ℕ) → (j ≡ place → ⊥) → fieldsOf new lay j ≡ fieldsOf s lay j
   unfolding fieldsOf
-  elsewhere j ne = fields-same (same-elsewhere j ne) (H .size-least)
+  elsewhere j d = fields-same (part-same (objectAt lay j) (objectAt lay j) (lay .«object_size») new s (elsewhere-part j d)) (H .size-least)
 
-  pub entries : SameEntries (withObject s lay place object) s lay
+  pub entries : SameEntries new s lay
   unfolding nestedOf pointOf
   entries =
       record {
-        nested = λ e. nested-same (same-behind (lay .«nested_at» + nestedSize * e) nestedSize (omega arith)) (le-refl nestedSize);
-        points = λ e. point-same (same-behind (lay .«points_at» + pointSize * e) pointSize (omega (arith, H .nested-in))) (le-refl pointSize);
+        nested = λ e. nested-same (rest-same (lay .«nested_at») (lay .«nested_at» + nestedSize * e) nestedSize new s rest-kept (omega arith)) (le-refl nestedSize);
+        points = λ e. point-same (rest-same (lay .«nested_at») (lay .«points_at» + pointSize * e) pointSize new s rest-kept (omega (arith, H .nested-in))) (le-refl pointSize);
       }
-
-  pub layout : layoutOf (withObject s lay place object) ≡ layoutOf s
-  layout = layout-of-same same-header
-
-  pub settings : settingsOf (withObject s lay place object) ≡ settingsOf s
-  settings = settings-of-same same-header
-
-  pub header : headerOk (withObject s lay place object) ≡ headerOk s
-  header = header-same same-header keeps-length

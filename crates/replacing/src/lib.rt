@@ -3,24 +3,24 @@
 ghost use mathlib.Core.Path.{_≡_};
 ghost use Prim.Native.Nat.{_+_, _<_, _≤_};
 ghost use lib.ListN.{length};
-ghost use lib.Seq.{paste};
+ghost use Rattle.tables.specs.Parts as parts;
 ghost use Rattle.objects.specs.Objects.{Holds};
-ghost use Rattle.opening.specs.Accepted.{Opened};
-ghost use Rattle.opening.specs.Header.{layoutOf};
-ghost use Rattle.replacing.specs.Local.{fallsHere, fallsNext, newStart, newTooLong, newVerdict};
-ghost use Rattle.replacing.specs.Replace.{Taken, withObject, placeVerdict, replaceVerdict, replaced};
+ghost use Rattle.opening.specs.Conditions.{firstOf, ifAccepted, Opens};
+ghost use Rattle.replacing.specs.Local.{fallsHere, fallsNext, newStart, newTooLong, newConditions};
+ghost use Rattle.replacing.specs.Replace.{putObject, placeConditions, replaceVerdict};
+ghost use Rattle.replacing.specs.Accepted.{Taken};
 use objects::Fields;
 use objects::Layout;
 use opening::Refusal;
 use opening::Verdict;
 
-// Copies the first n bytes of s to d, from at on.
-pub fn put(d: &mut [u8], at: usize, s: &[u8], n: usize)
-    requires { ⌜ (at + n ≤ length (now d)) × (n ≤ length (now s)) ⌝ }
-    ensures { λ _. ⌜ now (d .exit) ≡ paste (now (d .entry)) at (now (s .entry)) n ⌝ }
+// Copies s to d, from at on.
+pub fn put(d: &mut [u8], at: usize, s: &[u8])
+    requires { ⌜ at + length (now s) ≤ length (now d) ⌝ }
+    ensures { λ _. ⌜ now (d .exit) ≡ parts.put at (now (s .entry)) (now (d .entry)) ⌝ }
 {
     let mut k = 0;
-    while k < n {
+    while k < s.len() {
         d[at + k] = s[k];
         k += 1;
     }
@@ -81,7 +81,7 @@ fn new_too_long(chart: &[u8], lay: Layout, clock: f64, place: usize, f: Fields) 
 // Conditions 3 to 6 for the chart with an object of these fields at a place: only what that object can have changed is tested.
 fn check_new(chart: &[u8], lay: Layout, clock: f64, place: usize, f: Fields) -> Verdict
     requires { ⌜ Holds (now chart) lay × (place < lay .n) ⌝ }
-    ensures { λ r. ⌜ r ≡ newVerdict (now (chart .entry)) lay clock place f ⌝ }
+    ensures { λ r. ⌜ r ≡ firstOf (newConditions (now (chart .entry)) lay clock place f) ⌝ }
 {
     if !objects::fields_ok(f) {
         return Verdict::Refused(Refusal::Object(place));
@@ -103,8 +103,8 @@ fn check_new(chart: &[u8], lay: Layout, clock: f64, place: usize, f: Fields) -> 
 
 // Condition 8, then 3 to 6 for the chart as it would become; the chart as it is meets none of 1 to 6.
 fn check_at(chart: &[u8], place: usize, object: &[u8]) -> Verdict
-    requires { ⌜ Opened (now chart) ⌝ }
-    ensures { λ r. ⌜ r ≡ placeVerdict (now (chart .entry)) place (now (object .entry)) ⌝ }
+    requires { ⌜ Opens (now chart) ⌝ }
+    ensures { λ r. ⌜ r ≡ firstOf (placeConditions (now (chart .entry)) place (now (object .entry))) ⌝ }
 {
     let lay = opening::layout_of(chart);
     if lay.n <= place {
@@ -118,7 +118,7 @@ fn check_at(chart: &[u8], place: usize, object: &[u8]) -> Verdict
     check_new(chart, lay, settings.clock_rate, place, f)
 }
 
-// All conditions of replacing in their order; entries is the length of the shortest lent table.
+// All conditions of replacing in their order; entries is the number of entries of the shortest table.
 pub fn check_replace(chart: &[u8], place: usize, object: &[u8], entries: usize) -> Verdict
     ensures { λ r. ⌜ r ≡ replaceVerdict (now (chart .entry)) place (now (object .entry)) entries ⌝ }
 {
@@ -131,16 +131,20 @@ pub fn check_replace(chart: &[u8], place: usize, object: &[u8], entries: usize) 
 // Writes an accepted object to its place.
 fn put_object(chart: &mut [u8], place: usize, object: &[u8])
     requires { ⌜ Taken (now chart) place (now object) ⌝ }
-    ensures { λ _. ⌜ now (chart .exit) ≡ withObject (now (chart .entry)) (layoutOf (now (chart .entry))) place (now (object .entry)) ⌝ }
+    ensures { λ _. ⌜ now (chart .exit) ≡ putObject place (now (object .entry)) (now (chart .entry)) ⌝ }
 {
     let lay = opening::layout_of(chart);
-    let size = lay.object_size;
-    put(chart, 80 + size * place, object, size);
+    put(
+        chart,
+        objects::HEADER_SIZE + lay.object_size * place,
+        object,
+    );
 }
 
 // Replaces the object at a place, or refuses and leaves the chart as it was.
 pub fn replace(chart: &mut [u8], place: usize, object: &[u8], entries: usize) -> Verdict
-    ensures { λ r. ⌜ (r ≡ replaceVerdict (now (chart .entry)) place (now (object .entry)) entries) × (now (chart .exit) ≡ replaced (now (chart .entry)) place (now (object .entry)) entries) ⌝ }
+    ensures answer { λ r. ⌜ r ≡ replaceVerdict (now (chart .entry)) place (now (object .entry)) entries ⌝ }
+    ensures chart { λ r. ⌜ now (chart .exit) ≡ ifAccepted r (putObject place (now (object .entry)) (now (chart .entry))) (λ _. now (chart .entry)) ⌝ }
 {
     match check_replace(chart, place, object, entries) {
         Verdict::Refused(r) => Verdict::Refused(r),

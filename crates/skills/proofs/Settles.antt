@@ -7,16 +7,15 @@ use mathlib.Core.List.{List}
 use lib.ListN.{length}
 use lib.Ieee.{Float, lt}
 use Rattle.objects.specs.Objects.{fieldsOf}
-use Rattle.opening.specs.Header.{layoutOf, settingsAt}
-use Rattle.opening.specs.Verdict.{verdict}
-use Rattle.opening.specs.declared.Verdict.the-variants.{Accepted}
+use Rattle.opening.specs.Header.{layoutOf, settingsOf}
+use Rattle.opening.specs.Conditions.{Opens}
 use Rattle.skills.specs.declared.Skill.{Skill}
 use Rattle.skills.specs.Strains.{initialStrain, room, Walk, closeOne, closeTo, reached, walk}
 use Rattle.skills.specs.Chart.{startAt}
 use Rattle.skills.proofs.Closing.{close-stop}
 use Rattle.skills.proofs.Places.{start-at}
 use Rattle.skills.proofs.Times.{enough}
-use Rattle.skills.proofs.Accepted.{opened, opened-passes}
+use Rattle.skills.proofs.Accepted.{opens-passes}
 
 -- where the test, and not the number of closings, ended it, more closings change nothing
 close-any : (initial : Float → Float) (start : Float) (n m : ℕ) (w : Walk) → n ≤ m → lt (closeTo n initial start w .end) start ≡ false → closeTo m initial start w ≡ closeTo n initial start w
@@ -30,15 +29,15 @@ close-any initial start (suc n) (suc m) w h t = go (close-any initial start n m 
     go r true e = r (simp e at t)
     go r false e = refl
 
-module _ (s : List ℕ) (entries : ℕ) (opens : verdict s entries ≡ Accepted) (k : Skill) (strains : ℕ → Float) where
+module _ (s : List ℕ) (opens : Opens s) (k : Skill) (strains : ℕ → Float) where
   abbrev starts : ℕ → Float
-  starts j = startAt s (layoutOf s) (settingsAt s 32 .«clock_rate») j
+  starts j = startAt s (layoutOf s) (settingsOf s .«clock_rate») j
 
   -- before the strain at place j + 1 joins, its start isn't above its section's end
   pub walk-settles : (j : ℕ) → suc j < layoutOf s .n → lt (reached k starts strains (suc j) (walk k starts strains j) .end) (starts (suc j)) ≡ false
   walk-settles j h =
-      enough (layoutOf s .n) (λ i. fieldsOf s (layoutOf s) i .start) (settingsAt s 32 .«clock_rate») (opened-passes s entries (opened s entries opens) (omega arith)) k starts strains
-      (λ i b. start-at s (layoutOf s) (settingsAt s 32 .«clock_rate») i b) j h
+      enough (layoutOf s .n) (λ i. fieldsOf s (layoutOf s) i .start) (settingsOf s .«clock_rate») (opens-passes s opens (omega arith)) k starts strains
+      (λ i b. start-at s (layoutOf s) (settingsOf s .«clock_rate») i b) j h
 
   -- so that the walk is the same with any larger bound
   pub walk-unbounded : (j m : ℕ) → suc j < layoutOf s .n → room ≤ m

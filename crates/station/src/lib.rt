@@ -7,12 +7,11 @@ ghost use Prim.Native.Nat.{_≤_};
 ghost use lib.ListN.{length};
 ghost use Rattle.tables.specs.Parts.{put};
 ghost use Rattle.opening.specs.declared.Verdict.the-variants.{Refused};
-ghost use Rattle.calls.specs.Conditions as conditions;
-ghost use Rattle.calls.specs.Calls.{outcome, openOutcome};
-ghost use Rattle.calls.specs.Verdicts.{totalsVerdict};
-ghost use Rattle.editor.specs.Rules.{rules};
-ghost use Rattle.editor.specs.Answers.{refusedBy, recordAnswer, valuesAnswer, totalsAnswer, scratchOf};
-ghost use Rattle.station.specs.Codes.{codeOf, metCode, numbersOf, totalsRow, usable, totalsInto};
+ghost use Rattle.calls.specs.Conditions as ops;
+ghost use Rattle.calls.specs.Conditions.{figureVerdict};
+ghost use Rattle.calls.specs.Calls.{state, result, openAnswer, openLeaves, outcome};
+ghost use Rattle.editor.specs.Answers.{recordAnswer, valuesAnswer, totalsAnswer, scratchOf};
+ghost use Rattle.station.specs.Codes.{codeOf, verdictCode, answerCode, numbersOf, totalsRow, totalsWidth, noRoom, readInto, totalsInto, scratchInto};
 use editor::RecordAnswer;
 use editor::TotalsAnswer;
 use editor::ValuesAnswer;
@@ -20,19 +19,24 @@ use opening::Refusal;
 use opening::Verdict;
 use skills::Skills;
 
+// How many places a code tells apart, and how many totals there are.
+const PLACE_SPAN: usize = 0x1_0000_0000;
+
+const TOTALS_WIDTH: usize = 4;
+
 // A refusal as one number.
 fn code(r: Refusal) -> u64
-    ensures { λ x. ⌜ x ≡ codeOf (refusedBy r) ⌝ }
+    ensures { λ x. ⌜ x ≡ codeOf r ⌝ }
 {
-    r.number() as u64 * 0x1_0000_0000 + (r.place() % 0x1_0000_0000) as u64
+    r.number() as u64 * PLACE_SPAN as u64 + (r.place() % PLACE_SPAN) as u64
 }
 
 // Checks a chart and fills its tables.
 #[no_mangle]
 pub extern "C" fn difficulty_open(chart: &[u8], records: &mut [f64], values: &mut [f64]) -> u64
-    ensures answer { λ r. ⌜ r ≡ metCode (openOutcome rules (now (chart .entry)) (now (records .entry)) (now (values .entry)) .0) ⌝ }
-    ensures records { λ _. ⌜ now (records .exit) ≡ openOutcome rules (now (chart .entry)) (now (records .entry)) (now (values .entry)) .1 .records ⌝ }
-    ensures values { λ _. ⌜ now (values .exit) ≡ openOutcome rules (now (chart .entry)) (now (records .entry)) (now (values .entry)) .1 .values ⌝ }
+    ensures answer { λ r. ⌜ r ≡ verdictCode (openAnswer (state (now (chart .entry)) (now (records .entry)) (now (values .entry)))) ⌝ }
+    ensures leaves { λ _. ⌜ state (now (chart .exit)) (now (records .exit)) (now (values .exit))
+        ≡ openLeaves (state (now (chart .entry)) (now (records .entry)) (now (values .entry))) ⌝ }
 {
     match editor::open(chart, records, values) {
         Verdict::Refused(r) => code(r),
@@ -49,10 +53,11 @@ pub extern "C" fn difficulty_replace(
     records: &mut [f64],
     values: &mut [f64],
 ) -> u64
-    ensures answer { λ r. ⌜ r ≡ codeOf (outcome rules (conditions.replace place (now (object .entry))) (now (chart .entry)) (now (records .entry)) (now (values .entry)) .answer) ⌝ }
-    ensures chart { λ _. ⌜ now (chart .exit) ≡ outcome rules (conditions.replace place (now (object .entry))) (now (chart .entry)) (now (records .entry)) (now (values .entry)) .chart ⌝ }
-    ensures records { λ _. ⌜ now (records .exit) ≡ outcome rules (conditions.replace place (now (object .entry))) (now (chart .entry)) (now (records .entry)) (now (values .entry)) .records ⌝ }
-    ensures values { λ _. ⌜ now (values .exit) ≡ outcome rules (conditions.replace place (now (object .entry))) (now (chart .entry)) (now (records .entry)) (now (values .entry)) .values ⌝ }
+    ensures answer { λ r. ⌜ r
+        ≡ answerCode (outcome (ops.replace place (now (object .entry))) (state (now (chart .entry)) (now (records .entry)) (now (values .entry))) .answer) ⌝ }
+    ensures leaves { λ _. ⌜ state (now (chart .exit)) (now (records .exit)) (now (values .exit))
+        ≡ outcome (ops.replace place (now (object .entry))) (state (now (chart .entry)) (now (records .entry)) (now (values .entry))) .leaves ⌝ }
+    ensures object { λ _. ⌜ now (object .exit) ≡ now (object .entry) ⌝ }
 {
     match editor::replace(chart, place, object, records, values) {
         Verdict::Refused(r) => code(r),
@@ -60,12 +65,23 @@ pub extern "C" fn difficulty_replace(
     }
 }
 
+// Why a reading is refused whose answer has no room.
+fn no_room(chart: &[u8]) -> Refusal
+    ensures { λ r. ⌜ r ≡ noRoom (now (chart .entry)) ⌝ }
+{
+    if opening::header_ok(chart) {
+        return Refusal::Table;
+    }
+    Refusal::Header
+}
+
 // The record of a place, for an answer with as much room.
 fn record_into(chart: &[u8], records: &[f64], place: usize, room: usize) -> RecordAnswer
-    ensures { λ r. ⌜ recordAnswer r ≡ outcome rules (conditions.readRecord place) (now (chart .entry)) (usable 16 room (now (records .entry))) [] .answer ⌝ }
+    ensures { λ r. ⌜ result (recordAnswer r) (now (chart .exit)) (now (records .exit)) []
+        ≡ readInto 16 room (ops.readRecord place) (state (now (chart .entry)) (now (records .entry)) []) ⌝ }
 {
-    if room < 16 {
-        return editor::read_record(chart, &records[0..0], place);
+    if room < editor::RECORD_WIDTH {
+        return RecordAnswer::Refused(no_room(chart));
     }
     editor::read_record(chart, records, place)
 }
@@ -78,8 +94,11 @@ pub extern "C" fn difficulty_read_record(
     place: usize,
     out: &mut [f64],
 ) -> u64
-    ensures answer { λ r. ⌜ r ≡ codeOf (outcome rules (conditions.readRecord place) (now (chart .entry)) (usable 16 (length (now (out .entry))) (now (records .entry))) [] .answer) ⌝ }
-    ensures out { λ _. ⌜ now (out .exit) ≡ put 0 (numbersOf (outcome rules (conditions.readRecord place) (now (chart .entry)) (usable 16 (length (now (out .entry))) (now (records .entry))) [] .answer)) (now (out .entry)) ⌝ }
+    ensures answer { λ r. ⌜ r
+        ≡ answerCode (readInto 16 (length (now (out .entry))) (ops.readRecord place) (state (now (chart .entry)) (now (records .entry)) []) .answer) ⌝ }
+    ensures out { λ _. ⌜ now (out .exit)
+        ≡ put 0 (numbersOf (readInto 16 (length (now (out .entry))) (ops.readRecord place) (state (now (chart .entry)) (now (records .entry)) []) .answer)) (now (out .entry)) ⌝ }
+    ensures leaves { λ _. ⌜ state (now (chart .exit)) (now (records .exit)) [] ≡ state (now (chart .entry)) (now (records .entry)) [] ⌝ }
 {
     match record_into(chart, records, place, out.len()) {
         RecordAnswer::Refused(r) => code(r),
@@ -92,10 +111,11 @@ pub extern "C" fn difficulty_read_record(
 
 // The values of a place, for an answer with as much room.
 fn values_into(chart: &[u8], values: &[f64], place: usize, room: usize) -> ValuesAnswer
-    ensures { λ r. ⌜ valuesAnswer r ≡ outcome rules (conditions.readValue place) (now (chart .entry)) [] (usable 5 room (now (values .entry))) .answer ⌝ }
+    ensures { λ r. ⌜ result (valuesAnswer r) (now (chart .exit)) [] (now (values .exit))
+        ≡ readInto 5 room (ops.readValues place) (state (now (chart .entry)) [] (now (values .entry))) ⌝ }
 {
-    if room < 5 {
-        return editor::read_values(chart, &values[0..0], place);
+    if room < editor::VALUE_WIDTH {
+        return ValuesAnswer::Refused(no_room(chart));
     }
     editor::read_values(chart, values, place)
 }
@@ -108,8 +128,11 @@ pub extern "C" fn difficulty_read_values(
     place: usize,
     out: &mut [f64],
 ) -> u64
-    ensures answer { λ r. ⌜ r ≡ codeOf (outcome rules (conditions.readValue place) (now (chart .entry)) [] (usable 5 (length (now (out .entry))) (now (values .entry))) .answer) ⌝ }
-    ensures out { λ _. ⌜ now (out .exit) ≡ put 0 (numbersOf (outcome rules (conditions.readValue place) (now (chart .entry)) [] (usable 5 (length (now (out .entry))) (now (values .entry))) .answer)) (now (out .entry)) ⌝ }
+    ensures answer { λ r. ⌜ r
+        ≡ answerCode (readInto 5 (length (now (out .entry))) (ops.readValues place) (state (now (chart .entry)) [] (now (values .entry))) .answer) ⌝ }
+    ensures out { λ _. ⌜ now (out .exit)
+        ≡ put 0 (numbersOf (readInto 5 (length (now (out .entry))) (ops.readValues place) (state (now (chart .entry)) [] (now (values .entry))) .answer)) (now (out .entry)) ⌝ }
+    ensures leaves { λ _. ⌜ state (now (chart .exit)) [] (now (values .exit)) ≡ state (now (chart .entry)) [] (now (values .entry)) ⌝ }
 {
     match values_into(chart, values, place, out.len()) {
         ValuesAnswer::Refused(r) => code(r),
@@ -120,9 +143,9 @@ pub extern "C" fn difficulty_read_values(
     }
 }
 
-// Why totals without scratch are refused.
+// Why totals without room are refused.
 fn refuse_totals(chart: &[u8], entries: usize) -> Refusal
-    ensures { λ r. ⌜ Refused r ≡ totalsVerdict (now (chart .entry)) entries true ⌝ }
+    ensures { λ r. ⌜ Refused r ≡ figureVerdict (now (chart .entry)) entries true ⌝ }
 {
     match opening::check(chart, entries) {
         Verdict::Refused(r) => r,
@@ -140,21 +163,22 @@ fn totals_into(
     flashlight: &mut [f64],
     room: usize,
 ) -> TotalsAnswer
-    ensures answer { λ r. ⌜ totalsAnswer r ≡ totalsInto room (scratchOf (now (aim .entry)) (now («aim_no_sliders» .entry)) (now (speed .entry)) (now (flashlight .entry))) (now (chart .entry)) (now (values .entry)) .0 .answer ⌝ }
-    ensures aim { λ _. ⌜ now (aim .exit) ≡ totalsInto room (scratchOf (now (aim .entry)) (now («aim_no_sliders» .entry)) (now (speed .entry)) (now (flashlight .entry))) (now (chart .entry)) (now (values .entry)) .1 .aim ⌝ }
-    ensures still { λ _. ⌜ now («aim_no_sliders» .exit) ≡ totalsInto room (scratchOf (now (aim .entry)) (now («aim_no_sliders» .entry)) (now (speed .entry)) (now (flashlight .entry))) (now (chart .entry)) (now (values .entry)) .1 .aimNoSliders ⌝ }
-    ensures speed { λ _. ⌜ now (speed .exit) ≡ totalsInto room (scratchOf (now (aim .entry)) (now («aim_no_sliders» .entry)) (now (speed .entry)) (now (flashlight .entry))) (now (chart .entry)) (now (values .entry)) .1 .speed ⌝ }
-    ensures light { λ _. ⌜ now (flashlight .exit) ≡ totalsInto room (scratchOf (now (aim .entry)) (now («aim_no_sliders» .entry)) (now (speed .entry)) (now (flashlight .entry))) (now (chart .entry)) (now (values .entry)) .1 .flashlight ⌝ }
+    ensures answer { λ r. ⌜ result (totalsAnswer r) (now (chart .exit)) [] (now (values .exit))
+        ≡ totalsInto room (scratchOf (now (aim .entry)) (now («aim_no_sliders» .entry)) (now (speed .entry)) (now (flashlight .entry)))
+        (state (now (chart .entry)) [] (now (values .entry))) ⌝ }
+    ensures scratch { λ _. ⌜ scratchOf (now (aim .exit)) (now («aim_no_sliders» .exit)) (now (speed .exit)) (now (flashlight .exit))
+        ≡ scratchInto room (scratchOf (now (aim .entry)) (now («aim_no_sliders» .entry)) (now (speed .entry)) (now (flashlight .entry)))
+        (state (now (chart .entry)) [] (now (values .entry))) ⌝ }
 {
-    if room < 4 {
-        return TotalsAnswer::Refused(refuse_totals(chart, values.len() / 5));
+    if room < TOTALS_WIDTH {
+        return TotalsAnswer::Refused(refuse_totals(chart, values.len() / editor::VALUE_WIDTH));
     }
     editor::totals(chart, values, aim, aim_no_sliders, speed, flashlight)
 }
 
 // Writes the four totals.
 fn put_totals(out: &mut [f64], t: Skills)
-    requires { ⌜ 4 ≤ length (now out) ⌝ }
+    requires { ⌜ totalsWidth ≤ length (now out) ⌝ }
     ensures { λ _. ⌜ now (out .exit) ≡ put 0 (totalsRow t) (now (out .entry)) ⌝ }
 {
     out[0] = t.aim;
@@ -174,12 +198,19 @@ pub extern "C" fn difficulty_totals(
     flashlight: &mut [f64],
     out: &mut [f64],
 ) -> u64
-    ensures answer { λ r. ⌜ r ≡ codeOf (totalsInto (length (now (out .entry))) (scratchOf (now (aim .entry)) (now («aim_no_sliders» .entry)) (now (speed .entry)) (now (flashlight .entry))) (now (chart .entry)) (now (values .entry)) .0 .answer) ⌝ }
-    ensures aim { λ _. ⌜ now (aim .exit) ≡ totalsInto (length (now (out .entry))) (scratchOf (now (aim .entry)) (now («aim_no_sliders» .entry)) (now (speed .entry)) (now (flashlight .entry))) (now (chart .entry)) (now (values .entry)) .1 .aim ⌝ }
-    ensures still { λ _. ⌜ now («aim_no_sliders» .exit) ≡ totalsInto (length (now (out .entry))) (scratchOf (now (aim .entry)) (now («aim_no_sliders» .entry)) (now (speed .entry)) (now (flashlight .entry))) (now (chart .entry)) (now (values .entry)) .1 .aimNoSliders ⌝ }
-    ensures speed { λ _. ⌜ now (speed .exit) ≡ totalsInto (length (now (out .entry))) (scratchOf (now (aim .entry)) (now («aim_no_sliders» .entry)) (now (speed .entry)) (now (flashlight .entry))) (now (chart .entry)) (now (values .entry)) .1 .speed ⌝ }
-    ensures light { λ _. ⌜ now (flashlight .exit) ≡ totalsInto (length (now (out .entry))) (scratchOf (now (aim .entry)) (now («aim_no_sliders» .entry)) (now (speed .entry)) (now (flashlight .entry))) (now (chart .entry)) (now (values .entry)) .1 .flashlight ⌝ }
-    ensures out { λ _. ⌜ now (out .exit) ≡ put 0 (numbersOf (totalsInto (length (now (out .entry))) (scratchOf (now (aim .entry)) (now («aim_no_sliders» .entry)) (now (speed .entry)) (now (flashlight .entry))) (now (chart .entry)) (now (values .entry)) .0 .answer)) (now (out .entry)) ⌝ }
+    ensures answer { λ r. ⌜ r
+        ≡ answerCode (totalsInto (length (now (out .entry)))
+        (scratchOf (now (aim .entry)) (now («aim_no_sliders» .entry)) (now (speed .entry)) (now (flashlight .entry)))
+        (state (now (chart .entry)) [] (now (values .entry))) .answer) ⌝ }
+    ensures scratch { λ _. ⌜ scratchOf (now (aim .exit)) (now («aim_no_sliders» .exit)) (now (speed .exit)) (now (flashlight .exit))
+        ≡ scratchInto (length (now (out .entry)))
+        (scratchOf (now (aim .entry)) (now («aim_no_sliders» .entry)) (now (speed .entry)) (now (flashlight .entry)))
+        (state (now (chart .entry)) [] (now (values .entry))) ⌝ }
+    ensures out { λ _. ⌜ now (out .exit)
+        ≡ put 0 (numbersOf (totalsInto (length (now (out .entry)))
+        (scratchOf (now (aim .entry)) (now («aim_no_sliders» .entry)) (now (speed .entry)) (now (flashlight .entry)))
+        (state (now (chart .entry)) [] (now (values .entry))) .answer)) (now (out .entry)) ⌝ }
+    ensures leaves { λ _. ⌜ state (now (chart .exit)) [] (now (values .exit)) ≡ state (now (chart .entry)) [] (now (values .entry)) ⌝ }
 {
     match totals_into(
         chart,

@@ -6,9 +6,8 @@ use Rattle.tables.specs.Parts.{fill}
 use Rattle.objects.specs.declared.Layout.{Layout}
 use Rattle.records.specs.Fill.{filledRange}
 use Rattle.opening.specs.Header.{settingsOf}
-use Rattle.evaluators.specs.Values.{valuesOf, valuesIn}
-use Rattle.calls.proofs.Bridge.{records-edited}
-use Rattle.editor.proofs.Outcomes.{values-edited}
+use Rattle.evaluators.specs.Values.{valuesIn}
+use Rattle.editor.proofs.Outcomes.{records-edited, values-edited}
 use Rattle.editor.proofs.Fits.{fits}
 use borrow.Author.Needs.{needs}
 use Rattle.editor.proofs.bring_up_to_date.Statement.{statement}
@@ -74,7 +73,7 @@ returns c =
     let to = c .before .before .before .before .before .before .before .before .before .before .before .before .smaller .ensures ∙ ap (λ (x : Layout). min (k + 3) (x .n)) l in
     let to2 = c .before .before .before .smaller2 .ensures ∙ ap (λ (x : Layout). min (k + 34) (x .n)) l in (
       c .before .before .before .before .before .before .before .before .before .before .fill-range .ensures
-          ∙ ((λ i. filledRange b (l i) (s i) (c .before .before .before .before .before .before .before .before .before .before .before .before .before .from-one .ensures i) (to i) (a .records .now)) ∙ sym (records-edited valuesOf (settingsOf b) b k (a .records .now))),
+          ∙ ((λ i. filledRange b (l i) (s i) (c .before .before .before .before .before .before .before .before .before .before .before .before .before .from-one .ensures i) (to i) (a .records .now)) ∙ sym (records-edited (settingsOf b) b k (a .records .now))),
       c .before .before .fill-values .ensures
           ∙ ((λ i. fill 5 (valuesIn (s i) b (l i) (c .before .before .before .before .before .before .before .before .before .before .fill-range .last .1 .1 .1 .1 .1 .0)) (from i) (to2 i - from i) (a .values .now)) ∙ sym (values-edited (settingsOf b) b k (c .before .before .before .before .before .before .before .before .before .before .fill-range .last .1 .1 .1 .1 .1 .0) (a .values .now))),
     )

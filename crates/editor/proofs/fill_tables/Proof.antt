@@ -5,11 +5,9 @@ use native.Mathlib.Omega.{arith}
 use Rattle.tables.specs.Parts.{fill}
 use Rattle.records.specs.Fill.{filled}
 use Rattle.opening.specs.Header.{settingsOf}
-use Rattle.evaluators.specs.Values.{valuesOf, valuesIn}
+use Rattle.evaluators.specs.Values.{valuesIn}
 use Rattle.calls.specs.Calls.{opened, openRecords}
-use Rattle.calls.proofs.Bridge.{records-opened}
-use Rattle.editor.specs.Rules.{rules}
-use Rattle.editor.proofs.Outcomes.{values-opened}
+use Rattle.editor.proofs.Outcomes.{records-opened, values-opened}
 use Rattle.editor.proofs.Fits.{fits}
 use borrow.Author.Needs.{needs}
 use Rattle.editor.proofs.fill_tables.Statement.{statement}
@@ -44,11 +42,11 @@ returns c =
     let b = a .chart .now in
     let l = c .before .before .before .before .before .before .before .before .before .before .layout-of .ensures in
     let s = c .before .before .before .before .before .before .before .before .before .settings-at .ensures in
-    let r = c .before .before .before .before .before .before .before .fill .ensures ∙ ((λ i. filled b (l i) (s i) (a .records .now)) ∙ sym (records-opened valuesOf (settingsOf b) b (a .records .now))) in (
+    let r = c .before .before .before .before .before .before .before .fill .ensures ∙ ((λ i. filled b (l i) (s i) (a .records .now)) ∙ sym (records-opened (settingsOf b) b (a .records .now))) in (
       r,
       c .before .before .fill-values .ensures
           ∙ ((λ i. fill 5 (valuesIn (s i) b (l i) (r i)) 1 (l i .n - 1) (a .values .now))
-          ∙ sym (values-opened (settingsOf b) b (openRecords rules (settingsOf b) b (a .records .now)) (a .values .now))),
+          ∙ sym (values-opened (settingsOf b) b (openRecords (settingsOf b) b (a .records .now)) (a .values .now))),
     )
 
 pub fill-tables-spec : {M : Type 1} → statement M

@@ -1,11 +1,9 @@
 -- `editor::open` meets its contract. Assumes nothing.
 use mathlib.Core.Path.{sym, ap, _∙_}
-use mathlib.Core.Option.{Option}
 use Prim.Native.Nat.{ℕ}
-use Rattle.opening.specs.Verdict.{verdict}
-use Rattle.calls.specs.Conditions.{Met}
-use Rattle.calls.specs.Calls.{Opened}
-use Rattle.editor.proofs.Outcomes.{open-refused, open-accepted}
+use Rattle.opening.specs.Conditions.{openVerdict}
+use Rattle.calls.specs.Calls.{state, opened}
+use Rattle.editor.proofs.Outcomes.{opening-is, open-refused, open-accepted}
 use borrow.Author.Needs.{needs}
 use Rattle.editor.proofs.open.Statement.{statement}
 use Rattle.editor.proofs.open.Tie as tie
@@ -24,15 +22,14 @@ enum-told c = search needs
 
 fill-tables-requires : tie.Need-fill-tables-requires
 fill-tables-requires c κs =
-    let a = c .before .before .before .before .before .before .before .before .before .args in ap (λ (n : ℕ). verdict (a .chart .now) n) (sym (c .before .before .before .before .before .entries-in .ensures)) ∙ (sym (c .before .before .before .before .check .ensures) ∙ c .before .before .enum-told .given .1)
+    let a = c .before .before .before .before .before .before .before .before .before .args in
+    ap (λ (n : ℕ). openVerdict (a .chart .now) n) (sym (c .before .before .before .before .before .entries-in .ensures)) ∙ (sym (c .before .before .before .before .check .ensures) ∙ c .before .before .enum-told .given .1)
 
 returns : tie.Need-returns
 returns c =
     let a = c .before .before .before .before .before .before .before .before .args in
-    let h = open-refused (a .chart .now) (a .records .now) (a .values .now) _ (ap (λ (n : ℕ). verdict (a .chart .now) n) (sym (c .before .before .before .before .entries-in .ensures)) ∙ (sym (c .before .before .before .check .ensures) ∙ c .before .r .given .1)) in (
-      sym (ap (λ (x : Option Met × Opened). x .0) h),
-      (sym (ap (λ (x : Option Met × Opened). x .1 .records) h), sym (ap (λ (x : Option Met × Opened). x .1 .values) h)),
-    )
+    let v = ap (λ (n : ℕ). openVerdict (a .chart .now) n) (sym (c .before .before .before .before .entries-in .ensures)) ∙ (sym (c .before .before .before .check .ensures) ∙ c .before .r .given .1) in
+    (opening-is (a .chart .now) (a .records .now) (a .values .now) _ (sym v), sym (open-refused (a .chart .now) (a .records .now) (a .values .now) _ v))
 
 same-length : tie.Need-same-length
 same-length c = search needs
@@ -41,11 +38,12 @@ same-length-2 : tie.Need-same-length-2
 same-length-2 c = search needs
 
 returns-2 : tie.Need-returns-2
+unfolding opened
 returns-2 c =
     let a = c .before .before .before .before .before .before .before .before .before .before .before .before .before .before .args in
-    let h = open-accepted (a .chart .now) (a .records .now) (a .values .now) (ap (λ (n : ℕ). verdict (a .chart .now) n) (sym (c .before .before .before .before .before .before .before .before .before .before .entries-in .ensures)) ∙ (sym (c .before .before .before .before .before .before .before .before .before .check .ensures) ∙ c .before .before .before .before .before .before .before .enum-told .given .1)) in (
-      sym (ap (λ (x : Option Met × Opened). x .0) h),
-      (c .before .before .before .before .fill-tables .ensures .0 ∙ sym (ap (λ (x : Option Met × Opened). x .1 .records) h), c .before .before .before .before .fill-tables .ensures .1 ∙ sym (ap (λ (x : Option Met × Opened). x .1 .values) h)),
+    let v = ap (λ (n : ℕ). openVerdict (a .chart .now) n) (sym (c .before .before .before .before .before .before .before .before .before .before .entries-in .ensures)) ∙ (sym (c .before .before .before .before .before .before .before .before .before .check .ensures) ∙ c .before .before .before .before .before .before .before .enum-told .given .1) in (
+      opening-is (a .chart .now) (a .records .now) (a .values .now) _ (sym v),
+      (λ i. state (a .chart .now) (c .before .before .before .before .fill-tables .ensures .0 i) (c .before .before .before .before .fill-tables .ensures .1 i)) ∙ sym (open-accepted (a .chart .now) (a .records .now) (a .values .now) v),
     )
 
 pub open-spec : {M : Type 1} → statement M

@@ -1,14 +1,11 @@
 -- `editor::read_record` meets its contract. Assumes nothing.
 use mathlib.Core.Path.{sym, ap, _∙_}
 use mathlib.Core.List.{[]}
-use lib.ListN.{length}
 use native.Mathlib.Omega.{arith}
-use Rattle.calls.specs.Conditions.{readRecord}
-use Rattle.calls.specs.Calls.{refuse, execute, Outcome, recordIs}
-use Rattle.calls.proofs.Bridge.{record-verdict}
-use Rattle.evaluators.specs.Values.{valuesOf}
-use Rattle.editor.proofs.Outcomes.{carried-out, refused-as}
-use Rattle.editor.proofs.Readings.{read}
+use Rattle.opening.proofs.Header.{holds}
+use Rattle.calls.specs.Calls.{recordIs, result}
+use Rattle.calls.proofs.Refusals.{accepted-read}
+use Rattle.editor.proofs.Outcomes.{record-refused, record-read}
 use borrow.Author.Needs.{needs}
 use Rattle.editor.proofs.read_record.Statement.{statement}
 use Rattle.editor.proofs.read_record.Tie as tie
@@ -24,19 +21,18 @@ enum-told c = search needs
 
 record-at-requires : tie.Need-record-at-requires
 record-at-requires c κs =
-    let d = read _ _ _ (sym (c .before .before .check-reading .ensures) ∙ c .enum-told .given .1) in (omega (arith, d .few, d .below), omega (arith, d .room, d .below))
+    let d = accepted-read _ _ _ (sym (c .before .before .check-reading .ensures) ∙ c .enum-told .given .1) in (omega (arith, holds _ (d .header) .few, d .below), omega (arith, d .room, d .below))
 
 returns : tie.Need-returns
-unfolding refuse
 returns c =
     let a = c .before .before .before .before .before .before .args in
-    sym (ap (λ (x : Outcome). x .answer) (refused-as (readRecord (a .place)) (a .chart .now) (a .records .now) [] _ (record-verdict valuesOf (a .place) (length (a .records .now)) 0 (a .chart .now)) _ (sym (c .before .before .before .check-reading .ensures) ∙ c .before .r .given .1)))
+    sym (record-refused (a .chart .now) (a .records .now) (a .place) _ (sym (c .before .before .before .check-reading .ensures) ∙ c .before .r .given .1))
 
 returns-2 : tie.Need-returns-2
-unfolding execute
 returns-2 c =
     let a = c .before .before .before .before .before .before .args in
-    ap recordIs (c .record-at .ensures) ∙ sym (ap (λ (x : Outcome). x .answer) (carried-out (readRecord (a .place)) (a .chart .now) (a .records .now) [] _ (record-verdict valuesOf (a .place) (length (a .records .now)) 0 (a .chart .now)) (sym (c .before .before .before .check-reading .ensures) ∙ c .before .enum-told .given .1)))
+    (λ i. result (recordIs (c .record-at .ensures i)) (a .chart .now) (a .records .now) [])
+    ∙ sym (record-read (a .chart .now) (a .records .now) (a .place) (sym (c .before .before .before .check-reading .ensures) ∙ c .before .enum-told .given .1))
 
 pub read-record-spec : {M : Type 1} → statement M
 read-record-spec =

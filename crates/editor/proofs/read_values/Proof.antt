@@ -1,14 +1,10 @@
 -- `editor::read_values` meets its contract. Assumes nothing.
 use mathlib.Core.Path.{sym, ap, _∙_}
 use mathlib.Core.List.{[]}
-use lib.ListN.{length}
 use native.Mathlib.Omega.{arith}
-use Rattle.calls.specs.Conditions.{readValue}
-use Rattle.calls.specs.Calls.{refuse, execute, Outcome, valueIs}
-use Rattle.calls.proofs.Bridge.{value-verdict}
-use Rattle.evaluators.specs.Values.{valuesOf}
-use Rattle.editor.proofs.Outcomes.{carried-out, refused-as}
-use Rattle.editor.proofs.Readings.{read}
+use Rattle.calls.specs.Calls.{valuesAre, result}
+use Rattle.calls.proofs.Refusals.{accepted-read}
+use Rattle.editor.proofs.Outcomes.{values-refused, values-read}
 use borrow.Author.Needs.{needs}
 use Rattle.editor.proofs.read_values.Statement.{statement}
 use Rattle.editor.proofs.read_values.Tie as tie
@@ -24,20 +20,19 @@ enum-told c = search needs
 
 row-at-requires : tie.Need-row-at-requires
 row-at-requires c κs =
-    let d = read _ _ _ (sym (c .before .before .check-reading .ensures) ∙ c .enum-told .given .1) in
+    let d = accepted-read _ _ _ (sym (c .before .before .check-reading .ensures) ∙ c .enum-told .given .1) in
     omega (arith, d .room, d .below)
 
 returns : tie.Need-returns
-unfolding refuse
 returns c =
     let a = c .before .before .before .before .before .before .args in
-    sym (ap (λ (x : Outcome). x .answer) (refused-as (readValue (a .place)) (a .chart .now) [] (a .values .now) _ (value-verdict valuesOf (a .place) 0 (length (a .values .now)) (a .chart .now)) _ (sym (c .before .before .before .check-reading .ensures) ∙ c .before .r .given .1)))
+    sym (values-refused (a .chart .now) (a .values .now) (a .place) _ (sym (c .before .before .before .check-reading .ensures) ∙ c .before .r .given .1))
 
 returns-2 : tie.Need-returns-2
-unfolding execute
 returns-2 c =
     let a = c .before .before .before .before .before .before .args in
-    ap valueIs (c .row-at .ensures) ∙ sym (ap (λ (x : Outcome). x .answer) (carried-out (readValue (a .place)) (a .chart .now) [] (a .values .now) _ (value-verdict valuesOf (a .place) 0 (length (a .values .now)) (a .chart .now)) (sym (c .before .before .before .check-reading .ensures) ∙ c .before .enum-told .given .1)))
+    (λ i. result (valuesAre (c .row-at .ensures i)) (a .chart .now) [] (a .values .now))
+    ∙ sym (values-read (a .chart .now) (a .values .now) (a .place) (sym (c .before .before .before .check-reading .ensures) ∙ c .before .enum-told .given .1))
 
 pub read-values-spec : {M : Type 1} → statement M
 read-values-spec =

@@ -1,19 +1,19 @@
 -- `editor::replace` meets its contract. Assumes nothing.
 use Prim.Native.Nat.{ℕ}
-use mathlib.Core.Path.{_≡_, sym, ap, _∙_}
+use mathlib.Core.Path.{_≡_, refl, sym, ap, _∙_}
 use mathlib.Core.List.{List}
 use lib.ListN.{length}
 use Rattle.opening.specs.Header.{settingsOf}
-use Rattle.opening.specs.Verdict.{verdict}
-use Rattle.opening.specs.declared.Verdict.the-variants.{Accepted}
-use Rattle.replacing.specs.Replace.{replaceVerdict, replaced}
-use Rattle.replacing.specs.Accepted.{opens-again}
-use Rattle.calls.specs.Calls.{refuse, Outcome, editRecords, editValues}
-use Rattle.calls.specs.Verdicts.{entriesOf}
-use Rattle.calls.proofs.Bridge.{replace-chart}
-use Rattle.evaluators.specs.Values.{valuesOf}
-use Rattle.editor.specs.Rules.{rules}
-use Rattle.editor.proofs.Replacing.{still-below, replace-refused, replace-accepted}
+use Rattle.opening.specs.Conditions.{ifAccepted, openVerdict}
+use Rattle.opening.specs.Accepted.{opens-with}
+use Rattle.opening.specs.declared.Verdict.{Verdict}
+use Rattle.opening.specs.declared.Verdict.the-variants.{Accepted, Refused}
+use Rattle.replacing.specs.Replace.{putObject, replaceVerdict}
+use Rattle.replacing.specs.Accepted.{taken, room}
+use Rattle.calls.specs.Tables.{entriesOf}
+use Rattle.calls.specs.Calls.{refused, replaced, result, editRecords, editValues}
+use Rattle.calls.proofs.Replacing.{count-same}
+use Rattle.editor.proofs.Outcomes.{replace-refused, replace-accepted}
 use borrow.Author.Needs.{needs}
 use Rattle.editor.proofs.replace.Statement.{statement}
 use Rattle.editor.proofs.replace.Tie as tie
@@ -30,30 +30,37 @@ enum-known-r c = search needs
 enum-told : tie.Need-enum-told
 enum-told c = search needs
 
+-- the chart after a verdict
+chart-after : (v : Verdict) (new old b : List ℕ) → b ≡ ifAccepted v new (λ _. old) → v ≡ Accepted → b ≡ new
+unfolding ifAccepted
+chart-after v new old b e f = e ∙ ap (λ (w : Verdict). ifAccepted w new (λ _. old)) f
+
+chart-kept : (v : Verdict) (new old b : List ℕ) → b ≡ ifAccepted v new (λ _. old) → {q : _} → v ≡ Refused q → b ≡ old
+unfolding ifAccepted
+chart-kept v new old b e f = e ∙ ap (λ (w : Verdict). ifAccepted w new (λ _. old)) f
+
 bring-up-to-date-requires : tie.Need-bring-up-to-date-requires
 bring-up-to-date-requires c κs =
     let a = c .before .before .before .before .before .before .before .before .before .before .before .before .before .before .args in
     let e = c .before .before .before .before .before .before .before .before .entries-in .ensures in
-    let v : replaceVerdict (a .chart .now) (a .place) (a .object .now) (entriesOf (length (a .records .now)) (length (a .values .now))) ≡ Accepted =
-    ap (λ (n : ℕ). replaceVerdict (a .chart .now) (a .place) (a .object .now) n) (sym e) ∙ (sym (c .before .before .before .before .before .before .before .replace .ensures .0) ∙ c .before .before .before .enum-told .given .1) in
-    let q = c .before .before .before .before .before .before .before .replace .ensures .1 ∙ ap (λ (n : ℕ). replaced (a .chart .now) (a .place) (a .object .now) n) e in (
-      ap (λ (b : List ℕ). verdict b (entriesOf (length (a .records .now)) (length (a .values .now)))) q ∙ opens-again (a .chart .now) (a .place) (a .object .now) _ v,
-      rw q (still-below (a .chart .now) (a .place) (a .object .now) _ v),
-    )
+    let n : ℕ = entriesOf (length (a .records .now)) (length (a .values .now)) in
+    let v : replaceVerdict (a .chart .now) (a .place) (a .object .now) n ≡ Accepted =
+    ap (λ (m : ℕ). replaceVerdict (a .chart .now) (a .place) (a .object .now) m) (sym e) ∙ (sym (c .before .before .before .before .before .before .before .replace .ensures .0) ∙ c .before .before .before .enum-told .given .1) in
+    let t = taken (a .chart .now) (a .place) (a .object .now) n v in
+    let s = count-same (a .place) (a .object .now) (a .chart .now) t in
+    let q = chart-after _ _ _ _ (c .before .before .before .before .before .before .before .replace .ensures .1) (c .before .before .before .enum-told .given .1) in
+    rw q (opens-with (putObject (a .place) (a .object .now) (a .chart .now)) n (t .becomes) (rw s (room (a .chart .now) (a .place) (a .object .now) n v)), rw s (t .below))
 
 same-length : tie.Need-same-length
 same-length c = search needs
 
 returns : tie.Need-returns
-unfolding refuse
 returns c =
     let a = c .before .before .before .before .before .before .before .before .before .before .before .before .args in
     let e = c .before .before .before .before .before .before .entries-in .ensures in
     let v = ap (λ (n : ℕ). replaceVerdict (a .chart .now) (a .place) (a .object .now) n) (sym e) ∙ (sym (c .before .before .before .before .before .replace .ensures .0) ∙ c .before .r .given .1) in
-    let h = replace-refused (a .chart .now) (a .place) (a .object .now) (a .records .now) (a .values .now) _ v in (
-      sym (ap (λ (x : Outcome). x .answer) h),
-      (c .before .before .before .before .before .replace .ensures .1 ∙ (ap (λ (n : ℕ). replaced (a .chart .now) (a .place) (a .object .now) n) e ∙ sym (replace-chart valuesOf (a .place) (a .object .now) (a .chart .now) (a .records .now) (a .values .now))), (sym (ap (λ (x : Outcome). x .records) h), sym (ap (λ (x : Outcome). x .values) h))),
-    )
+    let q = chart-kept _ _ _ _ (c .before .before .before .before .before .replace .ensures .1) (c .before .r .given .1) in
+    ((λ i. result (refused (c .before .r .given .0 .0)) (q i) (a .records .now) (a .values .now)) ∙ sym (replace-refused (a .chart .now) (a .records .now) (a .values .now) (a .place) (a .object .now) _ v), refl)
 
 same-length-2 : tie.Need-same-length-2
 same-length-2 c = search needs
@@ -69,18 +76,10 @@ returns-2 c =
     let a = c .before .before .before .before .before .before .before .before .before .before .before .before .before .before .before .before .before .before .before .args in
     let e = c .before .before .before .before .before .before .before .before .before .before .before .before .before .entries-in .ensures in
     let v = ap (λ (n : ℕ). replaceVerdict (a .chart .now) (a .place) (a .object .now) n) (sym e) ∙ (sym (c .before .before .before .before .before .before .before .before .before .before .before .before .replace .ensures .0) ∙ c .before .before .before .before .before .before .before .before .enum-told .given .1) in
-    let h = replace-accepted (a .chart .now) (a .place) (a .object .now) (a .records .now) (a .values .now) v in
-    let q = c .before .before .before .before .before .before .before .before .before .before .before .before .replace .ensures .1 ∙ ap (λ (n : ℕ). replaced (a .chart .now) (a .place) (a .object .now) n) e in
-    let r = c .before .before .before .before .bring-up-to-date .ensures .0 ∙ ap (λ (b : List ℕ). editRecords rules (settingsOf b) b (a .place) (a .records .now)) q in (
-      sym (ap (λ (x : Outcome). x .answer) h),
-      (
-        q ∙ sym (ap (λ (x : Outcome). x .chart) h),
-        (
-          r ∙ sym (ap (λ (x : Outcome). x .records) h),
-          c .before .before .before .before .bring-up-to-date .ensures .1 ∙ ((λ i. editValues rules (settingsOf (q i)) (q i) (a .place) (r i) (a .values .now)) ∙ sym (ap (λ (x : Outcome). x .values) h)),
-        ),
-      ),
-    )
+    let q = chart-after _ _ _ _ (c .before .before .before .before .before .before .before .before .before .before .before .before .replace .ensures .1) (c .before .before .before .before .before .before .before .before .enum-told .given .1) in
+    let r = c .before .before .before .before .bring-up-to-date .ensures .0 ∙ ap (λ (b : List ℕ). editRecords (settingsOf b) b (a .place) (a .records .now)) q in
+    let w = c .before .before .before .before .bring-up-to-date .ensures .1 ∙ (λ i. editValues (settingsOf (q i)) (q i) (a .place) (r i) (a .values .now)) in
+    ((λ i. result replaced (q i) (r i) (w i)) ∙ sym (replace-accepted (a .chart .now) (a .records .now) (a .values .now) (a .place) (a .object .now) v), refl)
 
 pub replace-spec : {M : Type 1} → statement M
 replace-spec =

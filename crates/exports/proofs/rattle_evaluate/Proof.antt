@@ -3,7 +3,7 @@ use Prim.Native.Nat.{_/_}
 use mathlib.Core.Path.{sym, _∙_}
 use native.Mathlib.Omega.{arith}
 use lib.ListN.{length}
-use Rattle.opening.specs.Accepted.{opened, enough}
+use Rattle.opening.specs.Accepted.{opens, enough, header-ok}
 use Rattle.opening.proofs.Header.{parts}
 use Rattle.object.proofs.Accepted as Chart
 use borrow.Author.Needs.{needs}
@@ -20,10 +20,10 @@ enum-told-2 : tie.Need-enum-told-2
 enum-told-2 c = search needs
 
 layout-of-requires : tie.Need-layout-of-requires
-layout-of-requires c κs = parts _ (opened _ _ (sym (c .before .before .check .ensures) ∙ c .enum-told2 .given .1) .header) .long
+layout-of-requires c κs = parts _ (header-ok _ (opens _ _ (sym (c .before .before .check .ensures) ∙ c .enum-told2 .given .1))) .long
 
 settings-at-requires : tie.Need-settings-at-requires
-settings-at-requires c κs = parts _ (opened _ _ (sym (c .before .before .before .check .ensures) ∙ c .before .enum-told2 .given .1) .header) .long
+settings-at-requires c κs = parts _ (header-ok _ (opens _ _ (sym (c .before .before .before .check .ensures) ∙ c .before .enum-told2 .given .1))) .long
 
 sum-values-requires : tie.Need-sum-values-requires
 sum-values-requires c κs =

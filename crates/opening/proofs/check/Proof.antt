@@ -2,7 +2,8 @@
 use mathlib.Core.Path.{sym, _∙_}
 use native.Mathlib.Omega.{arith}
 use borrow.Author.Tests.{lt-ltb, le-ltb, not-true, not-false}
-use Rattle.opening.specs.Verdict.{verdict}
+use Rattle.opening.specs.Conditions.{firstOf, chartConditions, openConditions}
+use Rattle.opening.proofs.Body.{body-refuses, body-accepts}
 use Rattle.opening.proofs.Header.{parts, holds}
 use borrow.Author.Needs.{needs}
 use Rattle.opening.proofs.check.Statement.{statement}
@@ -12,7 +13,7 @@ header-ok-requires : tie.Need-header-ok-requires
 header-ok-requires c κs = search needs
 
 returns : tie.Need-returns
-unfolding verdict
+unfolding firstOf chartConditions openConditions
 returns c = simp (sym (c .before .header-ok .ensures) ∙ not-true _ (c .if1 .taken))
 
 layout-of-requires : tie.Need-layout-of-requires
@@ -25,7 +26,7 @@ settings-ok-requires : tie.Need-settings-ok-requires
 settings-ok-requires c κs = search needs
 
 returns-2 : tie.Need-returns-2
-unfolding verdict
+unfolding firstOf chartConditions openConditions
 returns-2 c =
     simp (
       sym (c .before .before .before .before .before .header-ok .ensures) ∙ not-false _ (c .before .before .before .before .if1 .left),
@@ -43,39 +44,24 @@ enum-told : tie.Need-enum-told
 enum-told c = search needs
 
 returns-3 : tie.Need-returns-3
-unfolding verdict
 returns-3 c =
-    simp (
-      sym (c .before .before .before .before .before .before .before .before .before .header-ok .ensures) ∙ not-false _ (c .before .before .before .before .before .before .before .before .if1 .left),
-      sym (c .before .before .before .before .before .before .settings-at .ensures),
-      sym (c .before .before .before .before .before .settings-ok .ensures) ∙ not-false _ (c .before .before .before .before .if2 .left),
-      sym (c .before .before .before .before .before .before .before .layout-of .ensures),
-      sym (c .before .before .before .check-body .ensures) ∙ c .before .r .given .1,
-    )
+    sym (body-refuses _ _ (c .before .before .before .before .before .before .before .layout-of .ensures) (c .before .before .before .before .before .before .settings-at .ensures)
+    (sym (c .before .before .before .before .before .before .before .before .before .header-ok .ensures) ∙ not-false _ (c .before .before .before .before .before .before .before .before .if1 .left)) (sym (c .before .before .before .before .before .settings-ok .ensures) ∙ not-false _ (c .before .before .before .before .if2 .left))
+    (c .before .before .before .check-body .ensures) _ (c .before .r .given .1))
 
 returns-4 : tie.Need-returns-4
-unfolding verdict
 returns-4 c =
-    simp (
-      sym (c .before .before .before .before .before .before .before .before .before .before .header-ok .ensures) ∙ not-false _ (c .before .before .before .before .before .before .before .before .before .if1 .left),
-      sym (c .before .before .before .before .before .before .before .settings-at .ensures),
-      sym (c .before .before .before .before .before .before .settings-ok .ensures) ∙ not-false _ (c .before .before .before .before .before .if2 .left),
-      sym (c .before .before .before .before .before .before .before .before .layout-of .ensures),
-      sym (c .before .before .before .before .check-body .ensures) ∙ c .before .before .enum-told .given .1,
-      lt-ltb (c .before .before .before .before .before .before .before .before .before .before .before .before .args .entries) (c .before .before .before .before .before .before .before .before .layout-of .result .n) (omega (arith, c .if3 .taken)),
-    )
+    sym (body-accepts _ _ (c .before .before .before .before .before .before .before .before .layout-of .ensures) (c .before .before .before .before .before .before .before .settings-at .ensures)
+    (sym (c .before .before .before .before .before .before .before .before .before .before .header-ok .ensures) ∙ not-false _ (c .before .before .before .before .before .before .before .before .before .if1 .left)) (sym (c .before .before .before .before .before .before .settings-ok .ensures) ∙ not-false _ (c .before .before .before .before .before .if2 .left))
+    (c .before .before .before .before .check-body .ensures) (c .before .before .enum-told .given .1)
+    ∙ simp (lt-ltb (c .before .before .before .before .before .before .before .before .before .before .before .before .args .entries) (c .before .before .before .before .before .before .before .before .layout-of .result .n) (omega (arith, c .if3 .taken))))
 
 returns-5 : tie.Need-returns-5
-unfolding verdict
 returns-5 c =
-    simp (
-      sym (c .before .before .before .before .before .before .before .before .before .before .header-ok .ensures) ∙ not-false _ (c .before .before .before .before .before .before .before .before .before .if1 .left),
-      sym (c .before .before .before .before .before .before .before .settings-at .ensures),
-      sym (c .before .before .before .before .before .before .settings-ok .ensures) ∙ not-false _ (c .before .before .before .before .before .if2 .left),
-      sym (c .before .before .before .before .before .before .before .before .layout-of .ensures),
-      sym (c .before .before .before .before .check-body .ensures) ∙ c .before .before .enum-told .given .1,
-      le-ltb (c .before .before .before .before .before .before .before .before .before .before .before .before .args .entries) (c .before .before .before .before .before .before .before .before .layout-of .result .n) (omega (arith, c .if3 .left)),
-    )
+    sym (body-accepts _ _ (c .before .before .before .before .before .before .before .before .layout-of .ensures) (c .before .before .before .before .before .before .before .settings-at .ensures)
+    (sym (c .before .before .before .before .before .before .before .before .before .before .header-ok .ensures) ∙ not-false _ (c .before .before .before .before .before .before .before .before .before .if1 .left)) (sym (c .before .before .before .before .before .before .settings-ok .ensures) ∙ not-false _ (c .before .before .before .before .before .if2 .left))
+    (c .before .before .before .before .check-body .ensures) (c .before .before .enum-told .given .1)
+    ∙ simp (le-ltb (c .before .before .before .before .before .before .before .before .before .before .before .before .args .entries) (c .before .before .before .before .before .before .before .before .layout-of .result .n) (omega (arith, c .if3 .left))))
 
 pub check-spec : {M : Type 1} → statement M
 check-spec =

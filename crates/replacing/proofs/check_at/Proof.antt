@@ -6,20 +6,22 @@ use denote.Ref.{now}
 use borrow.Author.Tests.{lt-ltb, le-ltb, ne-eqb}
 use Rattle.objects.specs.declared.Layout.{Layout}
 use Rattle.opening.proofs.Header.{parts, holds}
-use Rattle.replacing.specs.Replace.{placeVerdict}
+use Rattle.opening.specs.Accepted.{header-ok}
+use Rattle.opening.specs.Conditions.{firstOf}
+use Rattle.replacing.specs.Replace.{placeConditions}
 use Rattle.replacing.proofs.Local.{at-place}
 use Rattle.replacing.proofs.check_at.Statement.{statement}
 use Rattle.replacing.proofs.check_at.Tie as tie
 
 layout-of-requires : tie.Need-layout-of-requires
-layout-of-requires c κs = parts _ (c .before .before .pre .header) .long
+layout-of-requires c κs = parts _ (header-ok _ (c .before .before .pre)) .long
 
 returns : tie.Need-returns
-unfolding placeVerdict
+unfolding firstOf placeConditions
 returns c = simp (sym (c .before .before .layout-of .ensures), le-ltb _ _ (c .if1 .taken))
 
 returns-2 : tie.Need-returns-2
-unfolding placeVerdict
+unfolding firstOf placeConditions
 returns-2 c =
     simp (
       sym (c .before .before .before .before .layout-of .ensures),
@@ -28,14 +30,14 @@ returns-2 c =
     )
 
 settings-at-requires : tie.Need-settings-at-requires
-settings-at-requires c κs = parts _ (c .before .before .before .before .before .before .before .pre .header) .long
+settings-at-requires c κs = parts _ (header-ok _ (c .before .before .before .before .before .before .before .pre)) .long
 
 fields-at-requires : tie.Need-fields-at-requires
 fields-at-requires c κs =
-    omega (arith, c .before .if2 .left, ap (λ (l : Layout). l .«object_size») (c .before .before .before .before .before .layout-of .ensures), holds _ (c .before .before .before .before .before .before .before .before .pre .header) .size-least)
+    omega (arith, c .before .if2 .left, ap (λ (l : Layout). l .«object_size») (c .before .before .before .before .before .layout-of .ensures), holds _ (header-ok _ (c .before .before .before .before .before .before .before .before .pre)) .size-least)
 
 check-new-requires : tie.Need-check-new-requires
-check-new-requires c κs = (rw (c .before .before .before .before .before .before .layout-of .ensures) (holds _ (c .before .before .before .before .before .before .before .before .before .pre .header)), c .before .before .before .before .if1 .left)
+check-new-requires c κs = (rw (c .before .before .before .before .before .before .layout-of .ensures) (holds _ (header-ok _ (c .before .before .before .before .before .before .before .before .before .pre))), c .before .before .before .before .if1 .left)
 
 returns-3 : tie.Need-returns-3
 returns-3 c =

@@ -1,7 +1,8 @@
 -- `replacing::check_new` meets its contract. Assumes nothing.
 use mathlib.Core.Path.{sym, _∙_}
 use borrow.Author.Tests.{not-true, not-false}
-use Rattle.replacing.specs.Local.{newVerdict}
+use Rattle.opening.specs.Conditions.{firstOf}
+use Rattle.replacing.specs.Local.{newConditions}
 use borrow.Author.Needs.{needs}
 use Rattle.replacing.proofs.check_new.Statement.{statement}
 use Rattle.replacing.proofs.check_new.Tie as tie
@@ -10,14 +11,14 @@ fields-ok-requires : tie.Need-fields-ok-requires
 fields-ok-requires c κs = search needs
 
 returns : tie.Need-returns
-unfolding newVerdict
+unfolding firstOf newConditions
 returns c = simp (sym (c .before .fields-ok .ensures) ∙ not-true _ (c .if1 .taken))
 
 wrong-entries-requires : tie.Need-wrong-entries-requires
 wrong-entries-requires c κs = search needs
 
 returns-2 : tie.Need-returns-2
-unfolding newVerdict
+unfolding firstOf newConditions
 returns-2 c =
     simp (
       sym (c .before .before .before .fields-ok .ensures) ∙ not-false _ (c .before .before .if1 .left),
@@ -28,7 +29,7 @@ falls-here-requires : tie.Need-falls-here-requires
 falls-here-requires c κs = search needs
 
 returns-3 : tie.Need-returns-3
-unfolding newVerdict
+unfolding firstOf newConditions
 returns-3 c =
     simp (
       sym (c .before .before .before .before .before .fields-ok .ensures) ∙ not-false _ (c .before .before .before .before .if1 .left),
@@ -43,7 +44,7 @@ add-t14 : tie.Need-add-t14
 add-t14 c = search needs
 
 returns-4 : tie.Need-returns-4
-unfolding newVerdict
+unfolding firstOf newConditions
 returns-4 c =
     simp (
       sym (c .before .before .before .before .before .before .before .fields-ok .ensures) ∙ not-false _ (c .before .before .before .before .before .before .if1 .left),
@@ -56,7 +57,7 @@ new-too-long-requires : tie.Need-new-too-long-requires
 new-too-long-requires c κs = search needs
 
 returns-5 : tie.Need-returns-5
-unfolding newVerdict
+unfolding firstOf newConditions
 returns-5 c =
     simp (
       sym (c .before .before .before .before .before .before .before .before .before .fields-ok .ensures) ∙ not-false _ (c .before .before .before .before .before .before .before .before .if1 .left),
@@ -67,7 +68,7 @@ returns-5 c =
     )
 
 returns-6 : tie.Need-returns-6
-unfolding newVerdict
+unfolding firstOf newConditions
 returns-6 c =
     simp (
       sym (c .before .before .before .before .before .before .before .before .before .fields-ok .ensures) ∙ not-false _ (c .before .before .before .before .before .before .before .before .if1 .left),

@@ -1,7 +1,7 @@
 -- `replacing::check_replace` meets its contract. Assumes nothing.
 use mathlib.Core.Path.{sym, _∙_}
-use Rattle.replacing.specs.Replace.{replaceVerdict}
-use Rattle.opening.specs.Accepted.{opened}
+use Rattle.replacing.specs.Replace.{replaceConditions}
+use Rattle.opening.specs.Accepted.{opens, first-refused, first-passed}
 use borrow.Author.Needs.{needs}
 use Rattle.replacing.proofs.check_replace.Statement.{statement}
 use Rattle.replacing.proofs.check_replace.Tie as tie
@@ -16,15 +16,15 @@ enum-told : tie.Need-enum-told
 enum-told c = search needs
 
 check-at-requires : tie.Need-check-at-requires
-check-at-requires c κs = opened _ _ (sym (c .before .before .check .ensures) ∙ c .enum-told .given .1)
+check-at-requires c κs = opens _ _ (sym (c .before .before .check .ensures) ∙ c .enum-told .given .1)
 
 returns : tie.Need-returns
-unfolding replaceVerdict
-returns c = simp (sym (c .before .before .before .check .ensures) ∙ c .before .r .given .1)
+unfolding replaceConditions
+returns c = sym (first-refused _ _ _ (sym (c .before .before .before .check .ensures) ∙ c .before .r .given .1))
 
 returns-2 : tie.Need-returns-2
-unfolding replaceVerdict
-returns-2 c = simp (sym (c .before .before .before .check .ensures) ∙ c .before .enum-told .given .1, c .check-at .ensures)
+unfolding replaceConditions
+returns-2 c = c .check-at .ensures ∙ sym (first-passed _ _ (sym (c .before .before .before .check .ensures) ∙ c .before .enum-told .given .1))
 
 pub check-replace-spec : {M : Type 1} → statement M
 check-replace-spec =

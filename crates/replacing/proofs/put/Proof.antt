@@ -1,15 +1,18 @@
 -- `replacing::put` meets its contract. Assumes nothing.
 use Prim.Native.Nat.{_-_}
+use lib.ListN.{length}
 use native.Mathlib.Omega.{arith}
+use mathlib.Core.Path.{_∙_}
+use Rattle.replacing.specs.Put.{paste-put}
 use Rattle.replacing.proofs.Copy.{Copied, begin, more, all}
 use Rattle.replacing.proofs.put.Statement.{statement}
 use Rattle.replacing.proofs.put.Tie as tie
 
 abbrev Inv-loop : tie.InvT-loop
-Inv-loop d₀ at s n k₀ d k = Copied d₀ at s n d k
+Inv-loop d₀ at s k₀ d k = Copied d₀ at s (length s) d k
 
 abbrev μ-loop : tie.MeasureT-loop
-μ-loop d₀ at s n k₀ d k = n - k
+μ-loop d₀ at s k₀ d k = length s - k
 
 loop-holds : tie.Need-loop-holds Inv-loop μ-loop
 loop-holds c = begin _ _ _ _
@@ -30,13 +33,13 @@ loop-less : tie.Need-loop-less Inv-loop μ-loop
 loop-less c = omega arith
 
 loop-again : tie.Need-loop-again Inv-loop μ-loop
-loop-again c = more (c .before .before .loop .inv) (c .before .loop-test .taken) (c .before .before .before .pre .0) (c .before .before .before .pre .1)
+loop-again c = more (c .before .before .loop .inv) (c .before .loop-test .taken) (c .before .before .before .pre) (omega arith)
 
 same-length : tie.Need-same-length Inv-loop μ-loop
 same-length c = c .before .loop .inv .same
 
 returns : tie.Need-returns Inv-loop μ-loop
-returns c = all (c .before .loop .inv) (c .loop-test .left)
+returns c = all (c .before .loop .inv) (c .loop-test .left) ∙ paste-put _ _ _
 
 pub put-spec : {M : Type 1} → statement M
 put-spec =

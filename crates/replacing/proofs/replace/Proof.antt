@@ -1,6 +1,6 @@
 -- `replacing::replace` meets its contract. Assumes nothing.
-use mathlib.Core.Path.{sym, _∙_}
-use Rattle.replacing.specs.Replace.{replaced}
+use mathlib.Core.Path.{sym, ap, _∙_}
+use Rattle.opening.specs.Conditions.{ifAccepted}
 use Rattle.replacing.specs.Accepted.{taken}
 use borrow.Author.Needs.{needs}
 use Rattle.replacing.proofs.replace.Statement.{statement}
@@ -22,19 +22,15 @@ same-length : tie.Need-same-length
 same-length c = search needs
 
 returns : tie.Need-returns
-unfolding replaced
-returns c =
-    let e = sym (c .before .before .before .check-replace .ensures) ∙ c .before .r .given .1 in
-    (sym e, simp e)
+unfolding ifAccepted
+returns c = (sym (c .before .r .given .1) ∙ c .before .before .before .check-replace .ensures, search needs)
 
 same-length-2 : tie.Need-same-length-2
 same-length-2 c = search needs
 
 returns-2 : tie.Need-returns-2
-unfolding replaced
-returns-2 c =
-    let e = sym (c .before .before .before .before .before .before .check-replace .ensures) ∙ c .before .before .before .before .enum-told .given .1 in
-    (sym e, simp e (c .before .before .put-object .ensures))
+unfolding ifAccepted
+returns-2 c = (sym (c .before .before .before .before .enum-told .given .1) ∙ c .before .before .before .before .before .before .check-replace .ensures, c .before .before .put-object .ensures)
 
 pub replace-spec : {M : Type 1} → statement M
 replace-spec =

@@ -1,7 +1,6 @@
 -- `station::difficulty_open` meets its contract. Assumes nothing.
 use mathlib.Core.Path.{sym, ap, _∙_}
-use Rattle.calls.specs.Verdicts.{metBy}
-use Rattle.station.specs.Codes.{metCode}
+use Rattle.station.specs.Codes.{verdictCode}
 use borrow.Author.Needs.{needs}
 use Rattle.station.proofs.difficulty_open.Statement.{statement}
 use Rattle.station.proofs.difficulty_open.Tie as tie
@@ -27,7 +26,7 @@ same-length-2 c = search needs
 returns : tie.Need-returns
 returns c =
     let e = c .before .before .before .before .before .before .before .before .«open» .ensures in
-    (c .code .ensures ∙ ap metCode (ap metBy (sym (c .before .before .r .given .1)) ∙ e .0), e .1)
+    (c .code .ensures ∙ ap verdictCode (sym (c .before .before .r .given .1) ∙ e .0), e .1)
 
 same-length-3 : tie.Need-same-length-3
 same-length-3 c = search needs
@@ -38,7 +37,7 @@ same-length-4 c = search needs
 returns-2 : tie.Need-returns-2
 returns-2 c =
     let e = c .before .before .before .before .before .before .«open» .ensures in
-    (ap metCode (ap metBy (sym (c .enum-told .given .1)) ∙ e .0), e .1)
+    (ap verdictCode (sym (c .enum-told .given .1) ∙ e .0), e .1)
 
 pub difficulty-open-spec : {M : Type 1} → statement M
 difficulty-open-spec =

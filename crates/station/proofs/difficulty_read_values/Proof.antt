@@ -3,10 +3,11 @@ use mathlib.Core.Path.{sym, ap, _∙_}
 use native.Mathlib.Omega.{arith}
 use lib.ListN.{length}
 use Rattle.tables.specs.Parts.{put}
-use Rattle.calls.specs.Calls.{Answer}
+use mathlib.Core.Path.{refl}
+use Rattle.calls.specs.Calls.{Answer, Outcome}
 use Rattle.editor.specs.Answers.{valuesAnswer}
-use Rattle.station.specs.Codes.{codeOf, numbersOf}
-use Rattle.station.proofs.Rooms.{put-none, values-room}
+use Rattle.station.specs.Codes.{answerCode, numbersOf}
+use Rattle.station.proofs.Rooms.{put-none, into-room, no-values}
 use borrow.Author.Needs.{needs}
 use Rattle.station.proofs.difficulty_read_values.Statement.{statement}
 use Rattle.station.proofs.difficulty_read_values.Tie as tie
@@ -26,14 +27,14 @@ enum-known-v c = search needs
 put-values-requires : tie.Need-put-values-requires
 put-values-requires c κs =
     let a = c .before .before .before .before .before .before .before .before .args in
-    let p = sym (ap valuesAnswer (c .before .before .v .given .1)) ∙ c .before .before .before .before .values-into .ensures in
-    (omega arith, omega (arith, values-room (a .place) (length (a .out .now)) (a .chart .now) (a .values .now) _ p))
+    let p = sym (ap valuesAnswer (c .before .before .v .given .1)) ∙ ap (λ (x : Outcome). x .answer) (c .before .before .before .before .values-into .ensures) in
+    (omega arith, omega (arith, into-room 5 (length (a .out .now)) _ _ _ (no-values _) p))
 
 returns : tie.Need-returns
 returns c =
     let a = c .before .before .before .before .before .before .before .before .args in
-    let p = sym (ap valuesAnswer (c .before .before .r .given .1)) ∙ c .before .before .before .before .values-into .ensures in
-    (c .code .ensures ∙ ap codeOf p, put-none (a .out .now) ∙ ap (λ (x : Answer). put 0 (numbersOf x) (a .out .now)) p)
+    let p = sym (ap valuesAnswer (c .before .before .r .given .1)) ∙ ap (λ (x : Outcome). x .answer) (c .before .before .before .before .values-into .ensures) in
+    (c .code .ensures ∙ ap answerCode p, (put-none (a .out .now) ∙ ap (λ (x : Answer). put 0 (numbersOf x) (a .out .now)) p, refl))
 
 same-length : tie.Need-same-length
 same-length c = search needs
@@ -41,8 +42,8 @@ same-length c = search needs
 returns-2 : tie.Need-returns-2
 returns-2 c =
     let a = c .before .before .before .before .before .before .before .before .before .before .before .args in
-    let p = sym (ap valuesAnswer (c .before .before .before .before .before .v .given .1)) ∙ c .before .before .before .before .before .before .before .values-into .ensures in
-    (ap codeOf p, c .before .before .put-values .ensures ∙ ap (λ (x : Answer). put 0 (numbersOf x) (a .out .now)) p)
+    let p = sym (ap valuesAnswer (c .before .before .before .before .before .v .given .1)) ∙ ap (λ (x : Outcome). x .answer) (c .before .before .before .before .before .before .before .values-into .ensures) in
+    (ap answerCode p, (c .before .before .put-values .ensures ∙ ap (λ (x : Answer). put 0 (numbersOf x) (a .out .now)) p, refl))
 
 pub difficulty-read-values-spec : {M : Type 1} → statement M
 difficulty-read-values-spec =

@@ -1,7 +1,8 @@
 -- `station::difficulty_replace` meets its contract. Assumes nothing.
 use mathlib.Core.Path.{sym, ap, _∙_}
 use Rattle.editor.specs.Answers.{replaceAnswer}
-use Rattle.station.specs.Codes.{codeOf}
+use Rattle.calls.specs.Calls.{Outcome}
+use Rattle.station.specs.Codes.{answerCode}
 use borrow.Author.Needs.{needs}
 use Rattle.station.proofs.difficulty_replace.Statement.{statement}
 use Rattle.station.proofs.difficulty_replace.Tie as tie
@@ -30,7 +31,7 @@ same-length-3 c = search needs
 returns : tie.Need-returns
 returns c =
     let e = c .before .before .before .before .before .before .before .before .before .before .replace .ensures in
-    (c .code .ensures ∙ ap codeOf (ap replaceAnswer (sym (c .before .before .r .given .1)) ∙ e .0), e .1)
+    (c .code .ensures ∙ ap answerCode (ap replaceAnswer (sym (c .before .before .r .given .1)) ∙ ap (λ (x : Outcome). x .answer) (e .0)), (ap (λ (x : Outcome). x .leaves) (e .0), e .1))
 
 same-length-4 : tie.Need-same-length-4
 same-length-4 c = search needs
@@ -44,7 +45,7 @@ same-length-6 c = search needs
 returns-2 : tie.Need-returns-2
 returns-2 c =
     let e = c .before .before .before .before .before .before .before .before .replace .ensures in
-    (ap codeOf (ap replaceAnswer (sym (c .enum-told .given .1)) ∙ e .0), e .1)
+    (ap answerCode (ap replaceAnswer (sym (c .enum-told .given .1)) ∙ ap (λ (x : Outcome). x .answer) (e .0)), (ap (λ (x : Outcome). x .leaves) (e .0), e .1))
 
 pub difficulty-replace-spec : {M : Type 1} → statement M
 difficulty-replace-spec =

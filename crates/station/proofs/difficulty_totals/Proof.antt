@@ -2,9 +2,10 @@
 use mathlib.Core.Path.{sym, ap, _∙_}
 use lib.ListN.{length}
 use Rattle.tables.specs.Parts.{put}
-use Rattle.calls.specs.Calls.{Answer}
+use mathlib.Core.Path.{refl}
+use Rattle.calls.specs.Calls.{Answer, Outcome}
 use Rattle.editor.specs.Answers.{totalsAnswer, scratchOf}
-use Rattle.station.specs.Codes.{codeOf, numbersOf}
+use Rattle.station.specs.Codes.{answerCode, numbersOf}
 use Rattle.station.proofs.Rooms.{put-none, totals-room}
 use borrow.Author.Needs.{needs}
 use Rattle.station.proofs.difficulty_totals.Statement.{statement}
@@ -25,7 +26,7 @@ enum-known-t c = search needs
 put-totals-requires : tie.Need-put-totals-requires
 put-totals-requires c κs =
     let a = c .before .before .before .before .before .before .before .before .before .before .before .before .before .before .before .before .before .before .before .before .before .before .before .before .args in
-    let p = sym (ap totalsAnswer (c .before .before .t .given .1)) ∙ c .before .before .before .before .before .before .before .before .before .before .before .before .totals-into .ensures .0 in
+    let p = sym (ap totalsAnswer (c .before .before .t .given .1)) ∙ ap (λ (x : Outcome). x .answer) (c .before .before .before .before .before .before .before .before .before .before .before .before .totals-into .ensures .0) in
     totals-room (length (a .out .now)) (scratchOf (a .aim .now) (a .aim-no-sliders .now) (a .speed .now) (a .flashlight .now)) (a .chart .now) (a .values .now) _ p
 
 same-length : tie.Need-same-length
@@ -44,8 +45,8 @@ returns : tie.Need-returns
 returns c =
     let a = c .before .before .before .before .before .before .before .before .before .before .before .before .before .before .before .before .before .before .before .before .before .before .before .before .args in
     let e = c .before .before .before .before .before .before .before .before .before .before .before .before .totals-into .ensures in
-    let p = sym (ap totalsAnswer (c .before .before .r .given .1)) ∙ e .0 in
-    (c .code .ensures ∙ ap codeOf p, (e .1 .0, (e .1 .1 .0, (e .1 .1 .1 .0, (e .1 .1 .1 .1, put-none (a .out .now) ∙ ap (λ (x : Answer). put 0 (numbersOf x) (a .out .now)) p)))))
+    let p = sym (ap totalsAnswer (c .before .before .r .given .1)) ∙ ap (λ (x : Outcome). x .answer) (e .0) in
+    (c .code .ensures ∙ ap answerCode p, (e .1, (put-none (a .out .now) ∙ ap (λ (x : Answer). put 0 (numbersOf x) (a .out .now)) p, refl)))
 
 same-length-5 : tie.Need-same-length-5
 same-length-5 c = search needs
@@ -66,8 +67,8 @@ returns-2 : tie.Need-returns-2
 returns-2 c =
     let a = c .before .before .before .before .before .before .before .before .before .before .before .before .before .before .before .before .before .before .before .before .before .before .before .before .before .before .before .args in
     let e = c .before .before .before .before .before .before .before .before .before .before .before .before .before .before .before .totals-into .ensures in
-    let p = sym (ap totalsAnswer (c .before .before .before .before .before .t .given .1)) ∙ e .0 in
-    (ap codeOf p, (e .1 .0, (e .1 .1 .0, (e .1 .1 .1 .0, (e .1 .1 .1 .1, c .before .before .put-totals .ensures ∙ ap (λ (x : Answer). put 0 (numbersOf x) (a .out .now)) p)))))
+    let p = sym (ap totalsAnswer (c .before .before .before .before .before .t .given .1)) ∙ ap (λ (x : Outcome). x .answer) (e .0) in
+    (ap answerCode p, (e .1, (c .before .before .put-totals .ensures ∙ ap (λ (x : Answer). put 0 (numbersOf x) (a .out .now)) p, refl)))
 
 pub difficulty-totals-spec : {M : Type 1} → statement M
 difficulty-totals-spec =

@@ -1,6 +1,6 @@
 -- `station::refuse_totals` meets its contract. Assumes nothing.
 use mathlib.Core.Path.{sym, _∙_}
-use Rattle.calls.specs.Verdicts.{totalsVerdict}
+use Rattle.calls.proofs.Refusals.{figure-refused, figure-passed}
 use borrow.Author.Needs.{needs}
 use Rattle.station.proofs.refuse_totals.Statement.{statement}
 use Rattle.station.proofs.refuse_totals.Tie as tie
@@ -15,14 +15,10 @@ enum-told : tie.Need-enum-told
 enum-told c = search needs
 
 returns : tie.Need-returns
-unfolding totalsVerdict
-returns c =
-    simp (sym (c .before .before .before .check .ensures) ∙ c .before .r .given .1)
+returns c = sym (figure-refused _ _ _ _ (sym (c .before .before .before .check .ensures) ∙ c .before .r .given .1))
 
 returns-2 : tie.Need-returns-2
-unfolding totalsVerdict
-returns-2 c =
-    simp (sym (c .before .before .check .ensures) ∙ c .enum-told .given .1)
+returns-2 c = sym (figure-passed _ _ _ (sym (c .before .before .check .ensures) ∙ c .enum-told .given .1))
 
 pub refuse-totals-spec : {M : Type 1} → statement M
 refuse-totals-spec = tie.close (tie.spec check-requires enum-known-r enum-told returns returns-2)

@@ -1,0 +1,164 @@
+-- A call by itself, on any chart and any tables: what it leaves, and that the table which it doesn't borrow makes no difference; and that a call on the opening's
+-- own tables is admissible. Assumes nothing.
+use mathlib.Core.Path.{_≡_, refl, sym, ap, _∙_, subst, subst⁻¹}
+use mathlib.Core.List.{List, [], _∷_, map}
+use Prim.Native.Nat.{ℕ, _≤_}
+use lib.Ieee.{Float}
+use lib.ListN.{length}
+use Rattle.opening.specs.Header.{settingsOf}
+use Rattle.opening.specs.Conditions.{ifAccepted}
+use Rattle.opening.specs.declared.Refusal.{Refusal}
+use Rattle.opening.specs.declared.Verdict.{Verdict}
+use Rattle.opening.specs.declared.Verdict.the-variants.{Accepted, Refused}
+use Rattle.replacing.specs.Replace.{putObject}
+use Rattle.calls.specs.Simulation.{Throughout}
+use Rattle.calls.specs.Tables.{contents, tableAfter}
+use Rattle.calls.specs.Afresh.{Figure, count}
+use Rattle.calls.specs.Conditions.{Scratch, Lengths, lengths, Operation, replace, readRecord, readValues, figure, refusal}
+use Rattle.calls.specs.Calls.{State, Outcome, refuse, opened, openAnswer, openLeaves, edited, execute, verdictIn, outcome, zeros, cleared, scratchAfter, lent, stateAfter, perform}
+use Rattle.calls.specs.Statement.{OwnTables, Outside, Admissible, ownCall}
+use Rattle.calls.proofs.Refusals.{opening-met, accepted-replace}
+use Rattle.calls.proofs.Replacing.{count-same}
+use Rattle.calls.proofs.Locality.{open-outside}
+use Rattle.calls.proofs.Steps.{outside-refl, edited-outside}
+
+-- ---- With the opening's tables
+
+pub steps : (a : Operation) (st : State) → perform (ownCall a) st ≡ (outcome a st .answer, outcome a st .leaves)
+unfolding perform lent stateAfter contents tableAfter
+steps a st = refl
+
+own-tables : (a : Operation) → OwnTables a (ownCall a .records) (ownCall a .values)
+unfolding OwnTables
+own-tables (replace k o) = (tt, tt)
+own-tables (readRecord k) = tt
+own-tables (readValues k) = tt
+own-tables (figure f l) = tt
+
+pub own-calls : (ops : List Operation) (st : State) → Throughout perform Admissible (map ownCall ops) st
+unfolding Throughout Admissible
+own-calls [] st = tt
+own-calls (a ∷ ops) st = ((λ e. own-tables a), own-calls ops (perform (ownCall a) st .1))
+
+-- ---- With one table only
+
+answers-alike : (v : Verdict) (x y : State) (p q : Outcome) → p .answer ≡ q .answer → ifAccepted v p (refuse x) .answer ≡ ifAccepted v q (refuse y) .answer
+unfolding ifAccepted refuse
+answers-alike Accepted x y p q e = e
+answers-alike (Refused r) x y p q e = refl
+
+module _ (b : List ℕ) (rs vs : List Float) where
+  abbrev both : State
+  both = record { chart = b; records = rs; values = vs }
+
+  abbrev no-values : State
+  no-values = record { chart = b; records = rs; values = [] }
+
+  abbrev no-records : State
+  no-records = record { chart = b; records = []; values = vs }
+
+  pub record-alone : (k : ℕ) → outcome (readRecord k) both .answer ≡ outcome (readRecord k) no-values .answer
+  unfolding outcome verdictIn refusal execute
+  record-alone k = answers-alike _ both no-values _ _ refl
+
+  pub values-alone : (k : ℕ) → outcome (readValues k) both .answer ≡ outcome (readValues k) no-records .answer
+  unfolding outcome verdictIn refusal execute
+  values-alone k = answers-alike _ both no-records _ _ refl
+
+  pub figure-alone : (f : Figure) (l : Lengths) → outcome (figure f l) both .answer ≡ outcome (figure f l) no-records .answer
+  unfolding outcome verdictIn refusal execute
+  figure-alone f l = answers-alike _ both no-records _ _ refl
+
+-- ---- What a call leaves, by the condition that it meets
+
+module _ (a : Operation) (st : State) where
+  by : Verdict → Outcome
+  by v = ifAccepted v (execute a st) (refuse st)
+
+  pub carried-out : verdictIn a st ≡ Accepted → outcome a st ≡ execute a st
+  unfolding outcome by ifAccepted
+  carried-out e = ap by e
+
+  pub refused-as : (q : Refusal) → verdictIn a st ≡ Refused q → outcome a st ≡ refuse st q
+  unfolding outcome by ifAccepted
+  refused-as q e = ap by e
+
+  -- it stands where what it would leave does, and where nothing is changed
+  by-cases : (P : State → Type 0) → P st → (verdictIn a st ≡ Accepted → P (execute a st .leaves)) → P (outcome a st .leaves)
+  unfolding refuse
+  by-cases P p f = go (verdictIn a st) refl
+    where
+      go : (v : Verdict) → verdictIn a st ≡ v → P (outcome a st .leaves)
+      go Accepted e = subst⁻¹ (λ (x : Outcome). P (x .leaves)) (carried-out e) (f e)
+      go (Refused q) e = subst⁻¹ (λ (x : Outcome). P (x .leaves)) (refused-as q e) p
+
+pub record-reads : (k : ℕ) (st : State) → outcome (readRecord k) st .leaves ≡ st
+unfolding execute
+record-reads k st = by-cases (readRecord k) st (λ x. x ≡ st) refl (λ e. refl)
+
+pub values-reads : (k : ℕ) (st : State) → outcome (readValues k) st .leaves ≡ st
+unfolding execute
+values-reads k st = by-cases (readValues k) st (λ x. x ≡ st) refl (λ e. refl)
+
+pub figure-reads : (f : Figure) (l : Lengths) (st : State) → outcome (figure f l) st .leaves ≡ st
+unfolding execute
+figure-reads f l st = by-cases (figure f l) st (λ x. x ≡ st) refl (λ e. refl)
+
+-- entries 1 to N - 1 only
+abbrev Written : State → State → Type 0
+Written st x = Outside (count (x .chart)) st x
+
+pub writes : (a : Operation) (st : State) → Written st (outcome a st .leaves)
+unfolding execute verdictIn
+writes (replace k o) st =
+    by-cases (replace k o) st (Written st) (outside-refl (count (st .chart)) st) (λ e.
+    let (a, r) = accepted-replace k o (length (st .records)) (length (st .values)) (st .chart) e in edited-outside k o st a r)
+writes (readRecord k) st = subst⁻¹ (Written st) (record-reads k st) (outside-refl (count (st .chart)) st)
+writes (readValues k) st = subst⁻¹ (Written st) (values-reads k st) (outside-refl (count (st .chart)) st)
+writes (figure f l) st = subst⁻¹ (Written st) (figure-reads f l st) (outside-refl (count (st .chart)) st)
+
+-- N stays
+pub counts : (a : Operation) (st : State) → count (outcome a st .leaves .chart) ≡ count (st .chart)
+unfolding execute verdictIn edited
+counts (replace k o) st =
+    by-cases (replace k o) st (λ x. count (x .chart) ≡ count (st .chart)) refl (λ e.
+    count-same k o (st .chart) (accepted-replace k o (length (st .records)) (length (st .values)) (st .chart) e .0))
+counts (readRecord k) st = ap (λ (x : State). count (x .chart)) (record-reads k st)
+counts (readValues k) st = ap (λ (x : State). count (x .chart)) (values-reads k st)
+counts (figure f l) st = ap (λ (x : State). count (x .chart)) (figure-reads f l st)
+
+-- ---- Opening
+
+module _ (st : State) where
+  opening-cases : (P : State → Type 0) → P st → (openAnswer st ≡ Accepted → P (opened st)) → P (openLeaves st)
+  unfolding openLeaves ifAccepted
+  opening-cases P p f = go (openAnswer st) refl
+    where
+      go : (v : Verdict) → openAnswer st ≡ v → P (ifAccepted (openAnswer st) (opened st) (λ r. st))
+      go Accepted e = subst⁻¹ (λ (w : Verdict). P (ifAccepted w (opened st) (λ r. st))) e (f e)
+      go (Refused q) e = subst⁻¹ (λ (w : Verdict). P (ifAccepted w (opened st) (λ r. st))) e p
+
+  pub opening-reads : openLeaves st .chart ≡ st .chart
+  unfolding opened
+  opening-reads = opening-cases (λ x. x .chart ≡ st .chart) refl (λ e. refl)
+
+  pub opened-outside : openAnswer st ≡ Accepted → Outside (count (st .chart)) st (opened st)
+  unfolding opened openAnswer
+  opened-outside e =
+      let (o, r) = opening-met (length (st .records)) (length (st .values)) (st .chart) e in
+      open-outside (settingsOf (st .chart)) (st .chart) (st .records) (st .values) (r .records) (r .values)
+
+  pub opening-writes : Outside (count (st .chart)) st (openLeaves st)
+  opening-writes = opening-cases (λ x. Outside (count (st .chart)) st x) (outside-refl (count (st .chart)) st) opened-outside
+
+-- ---- Scratch
+
+module _ (f : Figure) (x : Scratch) (st : State) where
+  pub scratch-cleared : verdictIn (figure f (lengths x)) st ≡ Accepted → scratchAfter f st x
+      ≡ record { aim = zeros (x .aim); aimNoSliders = zeros (x .aimNoSliders); speed = zeros (x .speed); flashlight = zeros (x .flashlight) }
+  unfolding scratchAfter ifAccepted cleared
+  scratch-cleared e = ap (λ v. ifAccepted v (cleared x) (λ r. x)) e
+
+  pub scratch-kept : (q : Refusal) → verdictIn (figure f (lengths x)) st ≡ Refused q → scratchAfter f st x ≡ x
+  unfolding scratchAfter ifAccepted
+  scratch-kept q e = ap (λ v. ifAccepted v (cleared x) (λ r. x)) e

@@ -1,0 +1,70 @@
+-- The place of a refusal is at most the largest number of objects. Assumes nothing.
+use mathlib.Core.Path.{_≡_, refl, sym, ap, _∙_}
+use mathlib.Core.List.{List, [], _∷_}
+use mathlib.Core.Bool.{Bool, true, false, not}
+use Prim.Native.Nat.{ℕ, _/_, _≤_, _<_}
+use native.Mathlib.Omega.{arith}
+use lib.ListN.{length}
+use Rattle.objects.specs.Limits.{mostObjects}
+use Rattle.opening.specs.Header.{layoutOf, headerOk}
+use Rattle.opening.specs.Conditions.{refusalPlace, firstOf, chartConditions, openConditions, openVerdict, Opens}
+use Rattle.opening.specs.Accepted.{first-refused, header-ok}
+use Rattle.opening.specs.declared.Refusal.{Refusal}
+use Rattle.opening.specs.declared.Refusal.the-variants.{Header, Setting, Object, Entries, Order, Length, Table, Place}
+use Rattle.opening.specs.declared.Verdict.{Verdict}
+use Rattle.opening.specs.declared.Verdict.the-variants.{Accepted, Refused}
+use Rattle.opening.proofs.Header.{holds}
+use Rattle.replacing.specs.Replace.{putObject}
+use Rattle.replacing.specs.Replaced as R
+use Rattle.calls.specs.Tables.{entriesOf}
+use Rattle.calls.specs.Afresh.{Figure, count}
+use Rattle.calls.specs.Conditions.{Lengths, scratchShort, Operation, replace, readRecord, readValues, figure, figureConditions, opening, refusal}
+use Rattle.calls.specs.Statement.{Placed, ReplacePlaced, of-chart, of-place, of-length, of-result}
+use Rattle.calls.proofs.Refusals.{opening-met}
+use Rattle.calls.proofs.Places.{same-refusal, opening-placed, replace-placed, record-placed, values-placed, figure-placed}
+
+few : (b : List ℕ) → headerOk b ≡ true → (j : ℕ) → j < count b → j ≤ mostObjects
+few b h j l = omega (arith, holds b h .few)
+
+placed-limit : (b : List ℕ) (q : Refusal) → headerOk b ≡ true → Placed b q → refusalPlace q ≤ mostObjects
+placed-limit b (Object j) h l = few b h j (l .below)
+placed-limit b (Entries j) h l = few b h j (l .below)
+placed-limit b (Order j) h l = few b h j (l .below)
+placed-limit b Header h l = omega arith
+placed-limit b Setting h l = omega arith
+placed-limit b Length h l = omega arith
+placed-limit b Table h l = omega arith
+placed-limit b Place h l = omega arith
+
+-- where condition 1 is met, that is the refusal
+header-first : (b : List ℕ) → headerOk b ≡ false → firstOf (chartConditions b) ≡ Refused Header
+unfolding firstOf chartConditions
+header-first b h = simp h
+
+at-limit : (b : List ℕ) (q : Refusal) → (headerOk b ≡ false → Refused Header ≡ Refused q) → Placed b q → refusalPlace q ≤ mostObjects
+at-limit b q f p = go (headerOk b) refl
+  where
+    go : (t : Bool) → headerOk b ≡ t → refusalPlace q ≤ mostObjects
+    go true h = placed-limit b q h p
+    go false h = let e : refusalPlace Header ≡ refusalPlace q = ap refusalPlace (same-refusal (f h)) in omega arith
+
+pub opening-limit : (r v : ℕ) (b : List ℕ) (q : Refusal) → opening r v b ≡ Refused q → refusalPlace q ≤ mostObjects
+unfolding openConditions
+opening-limit r v b q e = at-limit b q (λ h. sym (first-refused (chartConditions b) _ Header (header-first b h)) ∙ e) (opening-placed r v b q e)
+
+replace-limit : (k : ℕ) (o : List ℕ) (r v : ℕ) (b : List ℕ) (q : Refusal) → ReplacePlaced k o r v b q → refusalPlace q ≤ mostObjects
+replace-limit k o r v b q (of-chart e p) = opening-limit r v b q e
+replace-limit k o r v b q (of-place e h p) = let z : refusalPlace q ≡ 0 = ap refusalPlace p in omega arith
+replace-limit k o r v b q (of-length e h l p) =
+    let z : refusalPlace q ≡ k = ap refusalPlace p in
+    omega (arith, few b (header-ok b (opening-met r v b e .0)) k h)
+replace-limit k o r v b q (of-result e h l p) =
+    let t = header-ok b (opening-met r v b e .0) in
+    placed-limit (putObject k o b) q (R.header b k o (holds b t) h l ∙ t) p
+
+pub place-limit : (a : Operation) (r v : ℕ) (b : List ℕ) (q : Refusal) → refusal a r v b ≡ Refused q → refusalPlace q ≤ mostObjects
+unfolding refusal figureConditions
+place-limit (replace k o) r v b q e = replace-limit k o r v b q (replace-placed k o r v b q e)
+place-limit (readRecord k) r v b q e = let z = record-placed k r v b q e in omega arith
+place-limit (readValues k) r v b q e = let z = values-placed k r v b q e in omega arith
+place-limit (figure f l) r v b q e = at-limit b q (λ h. sym (first-refused (chartConditions b) _ Header (header-first b h)) ∙ e) (figure-placed f l r v b q e)

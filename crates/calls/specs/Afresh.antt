@@ -1,0 +1,71 @@
+-- "Afresh: by this document's rules from the chart's bytes alone": records, values, strains and figures of a chart, under given settings; and what follows
+-- from tables as they are found. Definitions only.
+use mathlib.Core.List.{List}
+use Prim.Native.Nat.{ℕ, zero}
+use lib.Ieee.{Float}
+use Rattle.tables.specs.Parts.{row}
+use Rattle.opening.specs.Header.{layoutOf}
+use Rattle.opening.specs.declared.Settings.{Settings}
+use Rattle.osu_object.specs.Osu.{Object, objectOf}
+use Rattle.object.specs.Record.{chartRecord}
+use Rattle.object.specs.declared.OsuDifficultyObject.{OsuDifficultyObject}
+use Rattle.records.specs.Rows as Rows
+use Rattle.evaluators.specs.Values.{reachOf, valuesOf, valuesIn}
+use Rattle.skills.specs.declared.Skills.{Skills}
+use Rattle.skills.specs.Strains.{strains, total}
+use Rattle.skills.specs.Chart.{startAt, deltaAt}
+use Rattle.calls.specs.Tables.{valueWidth}
+
+-- document 01's object record
+abbrev pub Record : Type 0
+Record = OsuDifficultyObject
+
+-- N, and the object at a place with its nested entries and points
+abbrev pub count : List ℕ → ℕ
+count b = layoutOf b .n
+
+abbrev pub object : List ℕ → ℕ → Object
+object b j = objectOf b (layoutOf b) j
+
+-- ---- Afresh
+
+abbrev pub freshRecord : Settings → List ℕ → ℕ → Record
+freshRecord s b j = chartRecord b (layoutOf b) s j
+
+-- as a row of the table
+abbrev pub freshRow : Settings → List ℕ → ℕ → List Float
+freshRow s b j = Rows.rowOf (freshRecord s b j)
+
+-- the five values, as a row of the table
+unfoldable pub freshValues : Settings → List ℕ → ℕ → List Float
+freshValues s b j = valuesOf s (reachOf (count b) j) (object b) (freshRecord s b) j
+
+unfoldable pub freshStrains : Settings → List ℕ → ℕ → Skills
+freshStrains s b j = strains (deltaAt b (layoutOf b) (s .«clock_rate»)) (freshValues s b) j
+
+-- ---- From tables as they are found
+
+abbrev pub valuesFrom : Settings → List ℕ → List Float → ℕ → List Float
+valuesFrom s b rs j = valuesIn s b (layoutOf b) rs j
+
+unfoldable pub strainsFrom : Settings → List ℕ → List Float → ℕ → Skills
+strainsFrom s b vs j = strains (deltaAt b (layoutOf b) (s .«clock_rate»)) (row valueWidth vs) j
+
+-- ---- Figures: what is worked out from the values of all places, with scratch
+
+pub data Figure : Type 0 where
+  totals : Figure
+
+-- what a figure comes to
+pub data Amount : Type 0 where
+  totalsAre : Skills → Amount
+
+-- from the values by place; times come from the chart
+unfoldable pub figureOf : Figure → Settings → List ℕ → (ℕ → List Float) → Amount
+figureOf totals s b values = totalsAre (total (startAt b (layoutOf b) (s .«clock_rate»)) (deltaAt b (layoutOf b) (s .«clock_rate»)) values (count b))
+
+abbrev pub freshFigure : Figure → Settings → List ℕ → Amount
+freshFigure f s b = figureOf f s b (freshValues s b)
+
+abbrev pub figureFrom : Figure → Settings → List ℕ → List Float → Amount
+figureFrom f s b vs = figureOf f s b (row valueWidth vs)
