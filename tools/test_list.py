@@ -47,6 +47,15 @@ def script():
     return module
 
 
+def runs(pid):
+    """Whether a process is there; one that has ended may still wait for its parent to notice."""
+    try:
+        with open(f"/proc/{pid}/stat") as file:
+            return file.read().rpartition(")")[2].split()[0] != "Z"
+    except (FileNotFoundError, ProcessLookupError):
+        return False
+
+
 class Decimals(unittest.TestCase):
     def test_same_bits(self):
         rng, m = random.Random(4), script()
@@ -166,10 +175,11 @@ class Command(unittest.TestCase):
             p.send_signal(how)
             self.assertIn("stopped", p.communicate(timeout=20)[1])
             self.assertEqual(p.returncode, 1)
-            with self.assertRaises(ProcessLookupError):
-                for _ in range(500):  # the child's end may come a little later
-                    os.kill(int(self.read("child")), 0)
-                    time.sleep(0.01)
+            for _ in range(500):  # the child's end may come a little later
+                if not runs(int(self.read("child"))):
+                    break
+                time.sleep(0.01)
+            self.assertFalse(runs(int(self.read("child"))))
             os.remove(self.at("slow"))
             os.remove(self.at("child"))
             self.assertTrue(os.path.exists(self.at("target", "bin", "lister")))
