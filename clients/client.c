@@ -1,10 +1,11 @@
-/* Opens a chart, drags one of its objects a thousand times, and prints what a station would show. client.rs does the same. */
+/* Opens a chart, drags one of its objects a thousand times, and prints what a station would show. client.rs does the same.
+ * Every call is guarded: it gives the same bits whatever rounding, flushing or traps a host has set. */
 #include <inttypes.h>
 #include <stdio.h>
 #include <stdlib.h>
 #include <string.h>
 
-#include "../include/station.h"
+#include "../include/station_guarded.h"
 
 struct station {
     uint8_t *chart;
@@ -47,18 +48,18 @@ static void print_numbers(const char *what, const double *numbers, size_t count)
 }
 
 static uint64_t replace(struct station *s, size_t place, const uint8_t *object, size_t length) {
-    return difficulty_replace(s->chart, s->length, place, object, length, s->records, s->records_length, s->values, s->values_length);
+    return difficulty_guarded_replace(s->chart, s->length, place, object, length, s->records, s->records_length, s->values, s->values_length);
 }
 
 static void show(struct station *s, size_t place) {
     double out[DIFFICULTY_RECORD];
-    if (difficulty_read_values(s->chart, s->length, s->values, s->values_length, place, out, DIFFICULTY_VALUES) == 0)
+    if (difficulty_guarded_read_values(s->chart, s->length, s->values, s->values_length, place, out, DIFFICULTY_VALUES) == 0)
         print_numbers("values", out, DIFFICULTY_VALUES);
-    if (difficulty_read_record(s->chart, s->length, s->records, s->records_length, place, out, DIFFICULTY_RECORD) == 0)
+    if (difficulty_guarded_read_record(s->chart, s->length, s->records, s->records_length, place, out, DIFFICULTY_RECORD) == 0)
         print_numbers("record", out, DIFFICULTY_RECORD);
-    uint64_t answer = difficulty_totals(s->chart, s->length, s->values, s->values_length,
-                                        s->scratch[0], DIFFICULTY_SCRATCH, s->scratch[1], DIFFICULTY_SCRATCH,
-                                        s->scratch[2], DIFFICULTY_SCRATCH, s->scratch[3], DIFFICULTY_SCRATCH, out, DIFFICULTY_TOTALS);
+    uint64_t answer = difficulty_guarded_totals(s->chart, s->length, s->values, s->values_length,
+                                                s->scratch[0], DIFFICULTY_SCRATCH, s->scratch[1], DIFFICULTY_SCRATCH,
+                                                s->scratch[2], DIFFICULTY_SCRATCH, s->scratch[3], DIFFICULTY_SCRATCH, out, DIFFICULTY_TOTALS);
     if (answer == 0) print_numbers("totals", out, DIFFICULTY_TOTALS);
     else print_answer("totals", answer);
 }
@@ -94,7 +95,7 @@ int main(int count, char **arguments) {
     s.values = claim(s.values_length, sizeof(double));
     for (int i = 0; i < 4; i++) s.scratch[i] = claim(DIFFICULTY_SCRATCH, sizeof(double));
     printf("objects %zu\n", s.objects);
-    uint64_t answer = difficulty_open(s.chart, s.length, s.records, s.records_length, s.values, s.values_length);
+    uint64_t answer = difficulty_guarded_open(s.chart, s.length, s.records, s.records_length, s.values, s.values_length);
     print_answer("opening", answer);
     if (answer == 0 && s.objects > 1) {
         show(&s, s.objects / 2);

@@ -1,6 +1,7 @@
 //! Opens a chart, drags one of its objects a thousand times, and prints what a station would show. client.c does the same.
+//! Every call is guarded: it gives the same bits whatever rounding, flushing or traps a host has set.
 mod station;
-use station::{Answer, OBJECT, RECORD, SCRATCH, TOTALS, VALUES};
+use station::{guarded, Answer, OBJECT, RECORD, SCRATCH, TOTALS, VALUES};
 
 struct Station {
     chart: Vec<u8>,
@@ -28,14 +29,14 @@ fn print_numbers(what: &str, numbers: &[f64]) {
 impl Station {
     fn show(&mut self, place: usize) {
         let (mut values, mut record, mut totals) = ([0.0; VALUES], [0.0; RECORD], [0.0; TOTALS]);
-        if station::read_values(&self.chart, &self.values, place, &mut values).is_ok() {
+        if guarded(|| station::read_values(&self.chart, &self.values, place, &mut values)).is_ok() {
             print_numbers("values", &values);
         }
-        if station::read_record(&self.chart, &self.records, place, &mut record).is_ok() {
+        if guarded(|| station::read_record(&self.chart, &self.records, place, &mut record)).is_ok() {
             print_numbers("record", &record);
         }
         let scratch = self.scratch.each_mut().map(|s| &mut s[..]);
-        match station::totals(&self.chart, &self.values, scratch, &mut totals) {
+        match guarded(|| station::totals(&self.chart, &self.values, scratch, &mut totals)) {
             Ok(()) => print_numbers("totals", &totals),
             refused => print_answer("totals", refused),
         }
@@ -53,7 +54,7 @@ impl Station {
             object[16..20].copy_from_slice(&x.to_le_bytes());
             let to = if step % 17 == 16 { self.objects } else { place };
             let length = if step % 23 == 22 { 40 } else { OBJECT };
-            let answer = station::replace(&mut self.chart, to, &object[..length], &mut self.records, &mut self.values);
+            let answer = guarded(|| station::replace(&mut self.chart, to, &object[..length], &mut self.records, &mut self.values));
             answers[answer.map_or_else(|r| r.number as usize, |()| 0)] += 1;
             if step % 250 == 0 {
                 self.show(place);
@@ -78,7 +79,7 @@ fn main() {
         objects,
     };
     println!("objects {objects}");
-    let answer = station::open(&s.chart, &mut s.records, &mut s.values);
+    let answer = guarded(|| station::open(&s.chart, &mut s.records, &mut s.values));
     print_answer("opening", answer);
     if answer.is_ok() && objects > 1 {
         s.show(objects / 2);

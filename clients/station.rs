@@ -20,6 +20,37 @@ mod library {
     }
 }
 
+/// C's environment of floating-point arithmetic on x86-64 Linux: that of the x87 in 28 bytes, and MXCSR.
+#[repr(C)]
+struct Environment([u32; 8]);
+
+const DEFAULT: *const Environment = usize::MAX as *const Environment; // FE_DFL_ENV
+
+#[link(name = "m")]
+extern "C" {
+    fn fegetenv(to: *mut Environment) -> i32;
+    fn fesetenv(from: *const Environment) -> i32;
+}
+
+impl Drop for Environment {
+    fn drop(&mut self) {
+        unsafe { fesetenv(self) };
+    }
+}
+
+/// Carries out a call in the default environment and gives the thread its own back, as include/station_guarded.h does in C. A program that is Rust alone does
+/// not need it: Rust assumes the default environment. Code that a C host calls does. Never inlined: arithmetic of the host cannot be moved into it.
+#[inline(never)]
+pub fn guarded<T>(call: impl FnOnce() -> T) -> T {
+    let mut host = Environment([0; 8]);
+    // SAFETY: `host` has the size and alignment of fenv_t.
+    unsafe {
+        fegetenv(&mut host);
+        fesetenv(DEFAULT);
+    }
+    call()
+}
+
 /// A refusal, or what was carried out.
 pub type Answer = Result<(), Refusal>;
 

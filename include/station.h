@@ -16,10 +16,15 @@
  *   4 a slider's nested entries or points wrong                   8 no such place
  * 3, 4 and 5 have the lowest offending place, the others place 0.
  *
- * What is assumed of the caller, as of any caller in C: each pointer is not null (also where its length is 0) and is aligned for its type; it
- * points to as many elements as the length says, all of them readable and initialised; what a call may write overlaps nothing else that it is lent;
- * no other thread writes what is lent, or reads what may be written, before the call has returned. Nothing is assumed of the
- * contents or of the lengths. Two threads may call at once on slices of their own.
+ * What is proved begins behind this header. Trusted of the caller, as of any caller in C:
+ *   - these prototypes, unchanged, and a stack with room (under 4 KB were measured);
+ *   - each pointer is not null (also where its length is 0), is aligned for its type and points to as many elements as the length says, all of them
+ *     readable and initialised; what a call may write overlaps nothing else that it is lent;
+ *   - no other thread writes what is lent, or reads what may be written, before the call has returned;
+ *   - the thread is in C's default floating-point environment: rounding to nearest, subnormal numbers kept, no exception trapped. In another one (fesetround,
+ *     feenableexcept, or FTZ and DAZ, which linking with -ffast-math can set for the whole program) a call works out other values, or an exception
+ *     stops the program. station_guarded.h has the same calls for a host that cannot be sure of this.
+ * Nothing is assumed of the contents or of the lengths. Two threads may call at once on slices of their own. A call may raise floating-point flags.
  *
  * Lengths count elements: bytes for chart and object, numbers for all else.
  */

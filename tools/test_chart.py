@@ -177,24 +177,5 @@ class Command(unittest.TestCase):
             self.assertEqual(self.told("explain", name), (2, b"", f"{name}: line 12: at is missing\n"))
 
 
-@unittest.skipUnless(os.path.exists(os.path.join(ROOT, "target", "bin", "lister")), "the lister is not built")
-class Listing(unittest.TestCase):
-    def listed(self, name, data=None):
-        return subprocess.run([os.path.join(ROOT, "tools", "list"), name], input=data, capture_output=True)
-
-    def test_two_circles(self):
-        p = self.listed(os.path.join(ROOT, "examples", "two_circles.txt"))
-        self.assertEqual(p.stdout.decode().splitlines(), [
-            "objects 2", "1 0000000000000000 0000000000000000 3FF0000000000000 3FF0000000000000 0000000000000000",
-            "totals 0000000000000000 0000000000000000 3FF1A3D70A3D70A4 0000000000000000"])
-        self.assertEqual(p.stderr, b"")
-
-    def test_refusals_are_explained(self):
-        p = self.listed("-", bytes(32_769))
-        self.assertEqual((p.stdout, p.stderr), (b"refused 7 0\n", b"7: the chart has 32,769 bytes, the lister takes 32,768 at most\n"))
-        p = self.listed("-", b"")
-        self.assertEqual((p.stdout, p.stderr), (b"refused 1 0\n", b"1: the chart has 0 bytes, its header alone takes 80\n"))
-
-
 if __name__ == "__main__":
     unittest.main()
