@@ -147,7 +147,7 @@ radicand f b p h =
     most binary32 x h = omega arith
     most binary64 x h = omega arith
 
--- Root's fact, over the format: the nearest root of the significand and the exponent, put together as a pattern, is the root of the value
+-- the root of the significand and the exponent, put together as a pattern, is `rootOf` of the value
 pub root-bits : (f : Format) (b digits exponent : ℕ) → 0 < b → b < ones f * hid f
     → NearestRoot (prec f) (sigOf f b * 2 ^ (expOf f b + low f)) ((expOf f b + low f + 1) / 2 + 32 - prec f) digits exponent
     → ofBits f (exponent * hid f + digits) ≡ rootOf f (ofBits f b)
