@@ -63,7 +63,7 @@ fn near_root(n: u64) -> u64
     let y2 = y1 * (1.5 - half * y1 * y1);
     let y3 = y2 * (1.5 - half * y2 * y2);
     // The sum with 2^52 has the whole number in its last digits.
-    floats::bits_of_f64(x * y3 * 2.0 + 4503599627370496.0) % 0x8000_0000
+    floats::bits_of_f64(x * y3 * 2.0 + floats::TWO_52) % 0x8000_0000
 }
 
 fn one_less(s: u64) -> u64
@@ -192,16 +192,16 @@ pub fn root64(x: f64) -> f64
     ensures { λ r. ⌜ r ≡ rootOf binary64 x ⌝ }
 {
     let b = floats::bits_of_f64(x);
-    if b % 0x8000_0000_0000_0000 == 0 {
+    if b % floats::SIGN == 0 {
         x
-    } else if 0x7FF0_0000_0000_0000 < b {
+    } else if floats::INFINITY_BITS < b {
         0.0 / 0.0
-    } else if b == 0x7FF0_0000_0000_0000 {
+    } else if b == floats::INFINITY_BITS {
         x
     } else {
-        let p = floats::parts(b, 0x10_0000_0000_0000);
+        let p = floats::parts(b, floats::FIELD);
         let r = nearest_root(p.digits, p.exponent + 1074, 53);
-        floats::f64_of_bits(r.exponent * 0x10_0000_0000_0000 + r.digits)
+        floats::f64_of_bits(r.exponent * floats::FIELD + r.digits)
     }
 }
 
@@ -210,15 +210,15 @@ pub fn root32(x: f32) -> f32
     ensures { λ r. ⌜ r ≡ rootOf binary32 x ⌝ }
 {
     let b = floats::bits_of_f32(x) as u64;
-    if b % 0x8000_0000 == 0 {
+    if b % floats::SIGN_32 == 0 {
         x
-    } else if 0x7F80_0000 < b {
+    } else if floats::INFINITY_BITS_32 < b {
         0.0 / 0.0
-    } else if b == 0x7F80_0000 {
+    } else if b == floats::INFINITY_BITS_32 {
         x
     } else {
-        let p = floats::parts(b, 0x80_0000);
+        let p = floats::parts(b, floats::FIELD_32);
         let r = nearest_root(p.digits, p.exponent + 149, 24);
-        floats::f32_of_bits((r.exponent * 0x80_0000 + r.digits) as u32)
+        floats::f32_of_bits((r.exponent * floats::FIELD_32 + r.digits) as u32)
     }
 }

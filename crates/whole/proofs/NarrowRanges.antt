@@ -7,17 +7,17 @@ use native.Mathlib.Nat.{le-trans, le-of-eq, le-of-lt, lt-of-lt-of-le, lt-of-le-o
 use native.Mathlib.Omega.{arith}
 use lib.Dec.{T, ltb, ltb→lt, isEq, eqb-refl}
 use lib.Pow.{pow-add, pow-pos, pow-mono, shl-lt, shr-lt}
-use lib.Ieee.{Float, nan, inf, fin, Format, binary32, binary64, up, down, size, nearest, units, round, fits, hid, ofBits, div}
+use lib.Ieee.{Float, nan, inf, fin, Format, binary32, binary64, up, down, size, nearest, units, round, hid, ofBits, div}
 use lib.Ieee.Digits.{size-lt, size-le}
 use lib.Ieee.Fits.{round-is, nearest-le, down-pos}
 use lib.Ieee.Exact.{HasValue}
 use lib.Ieee.Nearest.{closest, closest-same, nearest-ge}
 use lib.Ieee.Scale.{round-same}
-use Rattle.floats.specs.Value.{lt-or-ge, sigOf, expOf, sigAt, expAt, signed, bits-value, bits-inf, units-bits, units-inf, sig-short}
+use Rattle.floats.specs.Pattern.{sigOf, expOf, sigAt, expAt, signed}
+use Rattle.floats.specs.Value.{lt-or-ge, bits-value, bits-inf, units-bits, units-inf, sig-short}
 use Rattle.floats.specs.Order.{compare-lt, compare-gt, pow-lt-back}
-use Rattle.floats.specs.Held.{round-held}
 use Rattle.floats.specs.Bits.{reads-nan, zero-by-zero}
-use Rattle.whole.specs.Narrow.{narrow}
+use Rattle.whole.specs.Narrow.{narrow, Narrowed}
 
 pub narrow-of-value : (f : Format) (x : Float) (s : Bool) (a c : ℕ) → 0 < c → HasValue x s a c → narrow f x ≡ round f s a c
 unfolding narrow
@@ -134,12 +134,6 @@ module _ (s : Bool) (g k : ℕ) (G : g < 2 ^ 53) where
       ∙ units-inf binary32 s (closest g (2 ^ 29)) (k - 896)
       (le-trans (pow-mono {i = 277} {j = 23 + (k - 896)} (omega arith)) (le-trans (le-of-eq (pow-add 2 23 (k - 896))) (mul-le-mul-right (2 ^ (k - 896)) (q-least L))))
 
--- ---- the pattern of a finite f64 without its sign, rounded to that of an f32
--- r is the pattern, without its sign, of what the pattern c rounds to, whatever the sign
-pub record Narrowed (c r : ℕ) : Type 0 where
-  pub is : (s : Bool) → ofBits binary32 (signed binary32 s r) ≡ narrow binary32 (ofBits binary64 (signed binary64 s c))
-  pub most : r ≤ 0x7F800000
-
 -- an exponent above 0 is a normal value's
 pub lead-of-exp : (f : Format) (b : ℕ) → 0 < expOf f b → hid f ≤ sigOf f b
 lead-of-exp f b h = go (ltb b (hid f)) (ltb→lt b (hid f))
@@ -218,10 +212,3 @@ module _ (x : Float) (b : ℕ) (v : ofBits binary64 b ≡ x) (w : b < 2 ^ 64) wh
 
   pub narrow-nan : 0x7FF0000000000000 < b % 2 ^ 63 → div binary32 (ofBits binary32 0) (ofBits binary32 0) ≡ narrow binary32 x
   narrow-nan h = zero-by-zero binary32 ∙ sym (narrow-of-nan binary32) ∙ ap (narrow binary32) (sym (reads-nan binary64 b h) ∙ v)
-
--- ---- narrowing what was widened gives it back
-pub narrow-widened : (f : Format) (x : Float) → T (fits f x) → narrow f x ≡ x
-unfolding narrow
-narrow-widened f nan F = refl
-narrow-widened f (inf s) F = refl
-narrow-widened f (fin s m e) F = round-held f s m e F

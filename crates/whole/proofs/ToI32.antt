@@ -7,7 +7,7 @@ use native.Mathlib.Nat.{le-of-eq, le-of-lt, lt-irrefl, le-div-iff-mul-le, div-le
 use native.Mathlib.Omega.{arith}
 use lib.IntN.{ℤ, pos, negsuc, negℤ}
 use lib.Dec.{T, ltb, eqb, ltb→lt, lt→ltb, nltb→le, eqb→eq}
-use lib.Ieee.{Float, nan, inf, fin, up, down, neg, lt, eq, le, ne, ofBits, toSigned}
+use lib.Ieee.{Float, nan, inf, fin, up, down, lt, eq, le, ne, ofBits, toSigned}
 use lib.Ieee.Fits.{down-pos, and-l, and-r}
 use lib.Ieee.Compare.{differs-from-itself}
 use lib.Ieee.Casts.{toSigned-in}
@@ -15,10 +15,11 @@ use mir.Syntax.{w32, w64}
 use mir.Val.{SFits, toZ, ofZ}
 use mir.ValLaws.{toZ-ofZ}
 use Rattle.floats.specs.Numbers.{f64}
+use Rattle.whole.specs.ToInt.{reads-back}
 
--- the ends of the range: -2147483648, which is 2147483648 negated, and 2147483647
+-- the ends of the range: -2147483648 and 2147483647
 abbrev pub leastI32 : Float
-leastI32 = neg (f64 0x41E0000000000000)
+leastI32 = f64 0xC1E0000000000000
 
 abbrev pub mostI32 : Float
 mostI32 = f64 0x41DFFFFFFFC00000
@@ -30,7 +31,7 @@ abbrev most : Float
 most = fin false 2147483647 (pos 0)
 
 least-is : leastI32 ≡ least
-unfolding ofBits neg
+unfolding ofBits
 least-is = refl
 
 most-is : mostI32 ≡ most
@@ -188,10 +189,6 @@ within-at (fin false m e) o h k =
 
 pub within : (x : Float) → ne x x ≡ false → le x leastI32 ≡ false → le mostI32 x ≡ false → Within x
 within x o h k = within-at x (no o) (subst (λ (z : Float). T (not (le x z))) least-is (no h)) (subst (λ (z : Float). T (not (le z x))) most-is (no k))
-
--- the machine writes each signed result as bits and reads it back
-pub reads-back : (x : Float) (r : ℤ) → r ≡ toSigned 63 x → toZ w64 (ofZ w64 r) ≡ toSigned 63 x
-reads-back x r e = ap (λ (z : ℤ). toZ w64 (ofZ w64 z)) e ∙ toZ-ofZ w64 (toSigned 63 x) (record { sfits = toSigned-in 63 x })
 
 pub cast-fits : (x : Float) (r : ℤ) → r ≡ toSigned 63 x → Within x → SFits w32 (toZ w64 (ofZ w64 r))
 cast-fits x r e W = subst (λ (z : ℤ). SFits w32 z) (sym (reads-back x r e ∙ W .2)) (record { sfits = toSigned-in 31 x })

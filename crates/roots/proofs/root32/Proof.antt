@@ -5,7 +5,7 @@ use native.Mathlib.Omega.{arith}
 use lib.Ieee.{binary32, hid, ones}
 use borrow.Author.Needs.{needs}
 use Rattle.roots.specs.Root.{rootOf}
-use Rattle.roots.specs.RootOf.{at-zero, at-nan, at-inf, radicand-at, root-bits-at}
+use Rattle.roots.proofs.RootBits.{at-zero, at-nan, at-inf, radicand-at, root-bits-at}
 use Rattle.roots.proofs.root32.Statement.{statement}
 use Rattle.roots.proofs.root32.Tie as tie
 

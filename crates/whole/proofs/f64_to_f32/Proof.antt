@@ -1,5 +1,5 @@
 -- `whole::f64_to_f32` meets its contract: specs/NarrowLaws.antt has a law for each class of x. Assumes nothing.
-use Rattle.whole.specs.NarrowLaws.{narrow-finite, narrow-infinite, narrow-nan}
+use Rattle.whole.proofs.NarrowRanges.{narrow-finite, narrow-infinite, narrow-nan}
 use mathlib.Core.Path.{_∙_}
 use native.Mathlib.Omega.{arith}
 use borrow.Author.Needs.{needs}
