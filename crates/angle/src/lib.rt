@@ -239,10 +239,10 @@ pub fn angle(dot: f64, det: f64) -> f64
     ensures { λ r. ⌜ r ≡ angleOf dot det ⌝ }
 {
     if !floats::is_finite(dot) {
-        return 0.0 / 0.0;
+        return floats::nan();
     }
     if !floats::is_finite(det) {
-        return 0.0 / 0.0;
+        return floats::nan();
     }
     let d = direction(dot, det);
     if d.y == 0 {

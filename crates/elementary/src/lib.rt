@@ -229,13 +229,13 @@ fn power_other(b: f64, e: f64) -> f64
     ensures { λ r. ⌜ r ≡ powerOther b e ⌝ }
 {
     if !floats::is_finite(b) {
-        return 0.0 / 0.0;
+        return floats::nan();
     }
     if !floats::is_finite(e) {
-        return 0.0 / 0.0;
+        return floats::nan();
     }
     if b < 0.0 {
-        return 0.0 / 0.0;
+        return floats::nan();
     }
     if 0.0 < b {
         return two(e * (log(b) as f64));
@@ -265,7 +265,7 @@ pub fn exp(x: f64) -> f64
     if floats::is_finite(x) {
         two(x * LOG2_E * SCALE_64)
     } else {
-        0.0 / 0.0
+        floats::nan()
     }
 }
 
@@ -274,10 +274,10 @@ pub fn log10(b: f64) -> f64
     ensures { λ r. ⌜ r ≡ log10Of b ⌝ }
 {
     if !floats::is_finite(b) {
-        return 0.0 / 0.0;
+        return floats::nan();
     }
     if 0.0 < b {
         return log(b) as f64 / SCALE_64 * LOG10_2;
     }
-    0.0 / 0.0
+    floats::nan()
 }

@@ -33,12 +33,26 @@ pub const TWO_52: f64 = 4503599627370496.0;
 
 pub const PI: f64 = 3.141592653589793;
 
+// NaN. No constant can hold it.
+pub fn nan() -> f64
+    ensures { λ r. ⌜ r ≡ Ieee.nan ⌝ }
+{
+    0.0 / 0.0
+}
+
+// NaN as an f32.
+pub fn nan_32() -> f32
+    ensures { λ r. ⌜ r ≡ Ieee.nan ⌝ }
+{
+    0.0 / 0.0
+}
+
 // The f64 of a bit pattern; every NaN pattern gives NaN.
 pub fn f64_of_bits(b: u64) -> f64
     ensures { λ r. ⌜ r ≡ Ieee.ofBits binary64 b ⌝ }
 {
     if INFINITY_BITS < b % SIGN {
-        0.0 / 0.0
+        nan()
     } else {
         f64::from_bits(b)
     }
@@ -49,7 +63,7 @@ pub fn f32_of_bits(b: u32) -> f32
     ensures { λ r. ⌜ r ≡ Ieee.ofBits binary32 b ⌝ }
 {
     if INFINITY_U32 < b % SIGN_U32 {
-        0.0 / 0.0
+        nan_32()
     } else {
         f32::from_bits(b)
     }
@@ -102,10 +116,7 @@ pub fn parts(b: u64, hid: u64) -> Scaled
 pub fn widen(x: f32) -> f64
     ensures { λ r. ⌜ r ≡ x ⌝ }
 {
-    if x != x {
-        return 0.0 / 0.0;
-    }
-    x as f64
+    if x != x { nan() } else { x as f64 }
 }
 
 // Whether x is neither an infinity nor a NaN.

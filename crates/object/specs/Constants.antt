@@ -10,16 +10,16 @@ abbrev pub normalizedRadius : Float
 normalizedRadius = Ieee.ofInt binary64 (pos 50)
 
 -- NORMALIZED_RADIUS as an f32
-abbrev pub radius32 : Float
-radius32 = Ieee.ofInt binary32 (pos 50)
+abbrev pub normalizedRadius32 : Float
+normalizedRadius32 = Ieee.ofInt binary32 (pos 50)
 
 -- MAX_SLIDER_RADIUS: 50 × 2.4 in f32, which is one unit above 120
 unfoldable pub maxSliderRadius : Float
-maxSliderRadius = radius32 ⊗₃ f32 0x4019999A
+maxSliderRadius = normalizedRadius32 ⊗₃ f32 0x4019999A
 
 -- ASSUMED_SLIDER_RADIUS: 50 × 1.8 in f32, which is 90
 unfoldable pub assumedSliderRadius : Float
-assumedSliderRadius = radius32 ⊗₃ f32 0x3FE66666
+assumedSliderRadius = normalizedRadius32 ⊗₃ f32 0x3FE66666
 
 -- MIN_DELTA_TIME: 25
 abbrev pub minDeltaTime : Float

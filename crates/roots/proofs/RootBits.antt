@@ -8,9 +8,9 @@ use native.Mathlib.Omega.{arith}
 use lib.IntN.{ℤ, pos}
 use lib.Dec.{ltb, lit≤}
 use lib.Pow.{pow-add, pow-pos}
-use lib.Ieee.{Float, nan, inf, fin, Format, binary32, binary64, prec, low, units, hid, ones, top, ofBits, div}
+use lib.Ieee.{Float, nan, inf, fin, Format, binary32, binary64, prec, low, units, hid, ones, top, ofBits}
 use lib.Ieee.Exact.{HasValue}
-use Rattle.floats.specs.Bits.{reads-nan, zero-by-zero}
+use Rattle.floats.specs.Bits.{reads-nan}
 use Rattle.roots.specs.RootOf.{root-of-value, root-of-negative, root-of-nan, root-of-inf}
 use Rattle.floats.specs.Value.{sign-split, exp-small}
 use Rattle.roots.specs.Root.{rootKept, rootDrop, rootOf}
@@ -121,8 +121,8 @@ module _ (f : Format) (x : Float) (b : ℕ) (v : ofBits f b ≡ x) (w : b < 2 * 
   pub at-zero : b % top f ≡ 0 → x ≡ rootOf f x
   at-zero z = sym v ∙ sym (root-zero f b w z) ∙ ap (rootOf f) v
 
-  pub at-nan : (b % top f ≡ 0 → ⊥) → ones f * hid f < b → div f (ofBits f 0) (ofBits f 0) ≡ rootOf f x
-  at-nan z o = zero-by-zero f ∙ sym (root-nan f b w (go (b % top f) z) o) ∙ ap (rootOf f) v
+  pub at-nan : (b % top f ≡ 0 → ⊥) → ones f * hid f < b → nan ≡ rootOf f x
+  at-nan z o = sym (root-nan f b w (go (b % top f) z) o) ∙ ap (rootOf f) v
     where
       go : (r : ℕ) → (r ≡ 0 → ⊥) → 0 < r
       go r h = omega arith

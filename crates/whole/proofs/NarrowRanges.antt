@@ -7,7 +7,7 @@ use native.Mathlib.Nat.{le-trans, le-of-eq, le-of-lt, lt-of-lt-of-le, lt-of-le-o
 use native.Mathlib.Omega.{arith}
 use lib.Dec.{T, ltb, ltb→lt, isEq, eqb-refl}
 use lib.Pow.{pow-add, pow-pos, pow-mono, shl-lt, shr-lt}
-use lib.Ieee.{Float, nan, inf, fin, Format, binary32, binary64, up, down, size, nearest, units, round, hid, ofBits, div}
+use lib.Ieee.{Float, nan, inf, fin, Format, binary32, binary64, up, down, size, nearest, units, round, hid, ofBits}
 use lib.Ieee.Digits.{size-lt, size-le}
 use lib.Ieee.Fits.{round-is, nearest-le, down-pos}
 use lib.Ieee.Exact.{HasValue}
@@ -16,7 +16,7 @@ use lib.Ieee.Scale.{round-same}
 use Rattle.floats.specs.Pattern.{sigOf, expOf, sigAt, expAt, signed}
 use Rattle.floats.specs.Value.{lt-or-ge, bits-value, bits-inf, units-bits, units-inf, sig-short}
 use Rattle.floats.specs.Order.{compare-lt, compare-gt, pow-lt-back}
-use Rattle.floats.specs.Bits.{reads-nan, zero-by-zero}
+use Rattle.floats.specs.Bits.{reads-nan}
 use Rattle.whole.specs.Narrow.{narrow, Narrowed}
 
 pub narrow-of-value : (f : Format) (x : Float) (s : Bool) (a c : ℕ) → 0 < c → HasValue x s a c → narrow f x ≡ round f s a c
@@ -210,5 +210,5 @@ module _ (x : Float) (b : ℕ) (v : ofBits binary64 b ≡ x) (w : b < 2 ^ 64) wh
       ∙ sym (narrow-of-inf binary32 (z .0))
       ∙ ap (narrow binary32) (sym (bits-inf binary64 (z .0)) ∙ ap (λ (y : ℕ). ofBits binary64 (signed binary64 (z .0) y)) (sym e) ∙ ap (ofBits binary64) (sym (z .1)) ∙ v)
 
-  pub narrow-nan : 0x7FF0000000000000 < b % 2 ^ 63 → div binary32 (ofBits binary32 0) (ofBits binary32 0) ≡ narrow binary32 x
-  narrow-nan h = zero-by-zero binary32 ∙ sym (narrow-of-nan binary32) ∙ ap (narrow binary32) (sym (reads-nan binary64 b h) ∙ v)
+  pub narrow-nan : 0x7FF0000000000000 < b % 2 ^ 63 → nan ≡ narrow binary32 x
+  narrow-nan h = sym (narrow-of-nan binary32) ∙ ap (narrow binary32) (sym (reads-nan binary64 b h) ∙ v)

@@ -104,7 +104,7 @@ pub fn f64_to_f32(x: f64) -> f32
     } else if c == floats::INFINITY_BITS {
         floats::f32_of_bits((sign + floats::INFINITY_BITS_32) as u32)
     } else {
-        0.0 / 0.0
+        floats::nan_32()
     }
 }
 
