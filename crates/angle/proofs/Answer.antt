@@ -4,10 +4,8 @@ use mathlib.Core.Path.{_≡_, refl, sym, ap, ap₂, _∙_, subst}
 use mathlib.Core.Bool.{Bool, true, false, cond, _&&_}
 use lib.Dec.{T, eqb, eqb→eq, eqb·suc-zero}
 use lib.IntN.{ℤ, pos}
-use lib.Ieee.{Float, nan, binary64}
+use lib.Ieee.{Float, nan}
 use lib.Ieee.Scale.{finite}
-use Rattle.floats.specs.Bits.{zero-by-zero}
-use Rattle.floats.specs.Numbers.{_⊘_, zero64}
 use Rattle.angle.specs.declared.Dir.{Dir}
 use Rattle.angle.specs.Angle.{digits, scaled, to31, isZero, bitsOf}
 use Rattle.angle.specs.Float.{unitsOf, directionOf, straight, ofBits28, angleOf}
@@ -31,13 +29,13 @@ second-decides true z a b f = rw (f refl) refl
 second-decides false z a b f = refl
 
 module _ (dot det : Float) where
-  pub dot-not-finite : finite dot ≡ false → zero64 ⊘ zero64 ≡ angleOf dot det
+  pub dot-not-finite : finite dot ≡ false → nan ≡ angleOf dot det
   unfolding angleOf
-  dot-not-finite h = rw (zero-by-zero binary64, h) refl
+  dot-not-finite h = rw h refl
 
-  pub det-not-finite : finite det ≡ false → zero64 ⊘ zero64 ≡ angleOf dot det
+  pub det-not-finite : finite det ≡ false → nan ≡ angleOf dot det
   unfolding angleOf
-  det-not-finite h = rw (zero-by-zero binary64, h, and-false (finite dot)) refl
+  det-not-finite h = rw (h, and-false (finite dot)) refl
 
   zero-stays : eqb (unitsOf det) 0 ≡ true → isZero (scaled (directionOf dot det) .y) ≡ true
   unfolding directionOf

@@ -11,7 +11,8 @@ use lib.Ieee.Exact.{HasValue}
 use lib.Ieee.Fits.{down-pos}
 use lib.Ieee.Scale.{finite}
 use borrow.Author.Tests.{le-leb, lt-leb}
-use Rattle.floats.specs.Value.{signed, sigAt, expAt, bits-value, bits-inf, lt-or-ge}
+use Rattle.floats.specs.Pattern.{signed, sigAt, expAt}
+use Rattle.floats.specs.Value.{bits-value, bits-inf, lt-or-ge}
 use Rattle.floats.specs.Bits.{reads-nan}
 use Rattle.angle.specs.Float.{unitsOf, signBit}
 

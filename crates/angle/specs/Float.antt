@@ -28,6 +28,10 @@ directionOf dot det =
     let x = pos (unitsOf dot) in
     record { x = cond (signBit dot) (negℤ x) x; y = pos (unitsOf det) }
 
+-- the angle's 28 bits, of (dot, |det|) scaled
+abbrev pub angleBits : Float → Float → ℕ
+angleBits dot det = bitsOf (scaled (directionOf dot det))
+
 -- "0, or PI where dot has its sign bit"
 unfoldable pub straight : Float → Float
 straight dot = cond (signBit dot) pi64 zero64
@@ -43,11 +47,10 @@ ofBits28 bits = Ieee.ofInt binary64 (pos bits) ⊘ twoTo28 ⊗ pi64
 -- "If y = 0", else scaled; "If Y is now 0, X decides as above", and X has dot's sign; else by the bits. "an argument not finite gives NaN"
 unfoldable pub angleOf : Float → Float → Float
 angleOf dot det =
-    let d = scaled (directionOf dot det) in
     cond (finite dot && finite det)
     (cond (eqb (unitsOf det) 0) (straight dot)
-    (cond (isZero (d .y)) (straight dot)
-    (ofBits28 (bitsOf d))))
+    (cond (isZero (scaled (directionOf dot det) .y)) (straight dot)
+    (ofBits28 (angleBits dot det))))
     nan
 
 -- 180

@@ -165,7 +165,7 @@ fn bits_of(from: Dir) -> u64
 fn sign_bit(x: f64) -> bool
     ensures { λ r. ⌜ r ≡ signBit x ⌝ }
 {
-    0x8000_0000_0000_0000 <= floats::bits_of_f64(x)
+    floats::SIGN <= floats::bits_of_f64(x)
 }
 
 // The size of x, digits * 2^exponent in units of 2^-1074.
@@ -173,8 +173,8 @@ fn parts_of(x: f64) -> floats::Scaled
     requires { ⌜ finite x ≡ true ⌝ }
     ensures { λ r. ⌜ (r .digits * 2 ^ r .exponent ≡ unitsOf x) × (r .exponent ≤ 2046) ⌝ }
 {
-    let b = floats::bits_of_f64(x) % 0x8000_0000_0000_0000;
-    floats::parts(b, 0x10_0000_0000_0000)
+    let b = floats::bits_of_f64(x) % floats::SIGN;
+    floats::parts(b, floats::FIELD)
 }
 
 // How many binary digits that size has.
@@ -219,19 +219,18 @@ fn direction(dot: f64, det: f64) -> Dir
 fn straight_angle(dot: f64) -> f64
     ensures { λ r. ⌜ r ≡ straight dot ⌝ }
 {
-    if sign_bit(dot) {
-        3.141592653589793
-    } else {
-        0.0
-    }
+    if sign_bit(dot) { floats::PI } else { 0.0 }
 }
+
+// 2^28 bits are a half turn.
+const TWO_28: f64 = 268435456.0;
 
 // bits / 2^28 of a half turn.
 fn angle_of_bits(bits: u64) -> f64
     requires { ⌜ bits < 2 ^ 28 ⌝ }
     ensures { λ r. ⌜ r ≡ ofBits28 bits ⌝ }
 {
-    bits as f64 / 268435456.0 * 3.141592653589793
+    bits as f64 / TWO_28 * floats::PI
 }
 
 // The angle of (dot, det). A det of 0 leaves a Y of 0, so one test serves before and after the
@@ -240,10 +239,10 @@ pub fn angle(dot: f64, det: f64) -> f64
     ensures { λ r. ⌜ r ≡ angleOf dot det ⌝ }
 {
     if !floats::is_finite(dot) {
-        return 0.0 / 0.0;
+        return floats::nan();
     }
     if !floats::is_finite(det) {
-        return 0.0 / 0.0;
+        return floats::nan();
     }
     let d = direction(dot, det);
     if d.y == 0 {
@@ -252,9 +251,12 @@ pub fn angle(dot: f64, det: f64) -> f64
     angle_of_bits(bits_of(d))
 }
 
+// A half turn in degrees.
+const HALF_TURN: f64 = 180.0;
+
 // An angle in degrees, in radians.
 pub fn to_radians(degrees: f64) -> f64
     ensures { λ r. ⌜ r ≡ radiansOf degrees ⌝ }
 {
-    degrees * (3.141592653589793 / 180.0)
+    degrees * (floats::PI / HALF_TURN)
 }

@@ -5,5 +5,4 @@ pub mod Signed
 pub mod Significand
 pub mod LogLaws
 pub mod TwoLaws
-pub mod TwoSteps
 pub mod PowerLaws

@@ -17,7 +17,8 @@ use lib.Ieee.Bits.{ofBits-toBits, toBits-lt}
 use lib.Ieee.Exact.{HasValue}
 use lib.Ieee.Positive.{positive, values-of-le}
 use Rattle.floats.specs.Numbers.{one64}
-use Rattle.floats.specs.Value.{value-unique, sigOf, expOf, sig-short}
+use Rattle.floats.specs.Pattern.{sigOf, expOf}
+use Rattle.floats.specs.Value.{value-unique, sig-short}
 use Rattle.elementary.specs.Log.{squared, stepBit, stepNext, logBits, logOf}
 use Rattle.elementary.specs.Signed.{diff, diff-same, diff-add, diff-mul, diff-mag, pos-diff, neg-pos, minus-diff}
 use Rattle.elementary.specs.Significand.{size-pos, size-shift, tz-div, above-value, above-digits, above-exponent, above-odd}

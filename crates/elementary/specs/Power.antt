@@ -20,7 +20,7 @@ log2OfE = f64 0x3FF71547652B82FE
 abbrev pub log10Of2 : Float
 log10Of2 = f64 0x3FD34413509F79FF
 
--- L as an f64; it is exact (`log-bound`)
+-- L as an f64; no digit is lost (`log-exact` of LogLaws)
 abbrev pub log64 : Float → Float
 log64 b = ofInt binary64 (logOf b)
 

@@ -16,8 +16,8 @@ use lib.Ieee.Bits.{ofBits-fits}
 use lib.Ieee.Exact.{HasValue, odd-sign}
 use lib.Ieee.Positive.{positive, first-pos, value-pos}
 use Rattle.floats.specs.Bits.{reads-nan}
-use Rattle.floats.specs.Value.{lt-or-ge, value-unique, sigOf, expOf, signed, bits-value, bits-inf, sig-short}
-use Rattle.roots.specs.RootOf.{sign-split, exp-small}
+use Rattle.floats.specs.Pattern.{sigOf, expOf, signed}
+use Rattle.floats.specs.Value.{sign-split, exp-small, lt-or-ge, value-unique, bits-value, bits-inf, sig-short}
 
 -- a number with its highest set digit at place j has j + 1 digits
 size-unique : (a j : ℕ) → 2 ^ j ≤ a → a < 2 ^ suc j → size a ≡ suc j

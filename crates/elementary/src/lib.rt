@@ -12,17 +12,42 @@ ghost use Rattle.elementary.specs.Log.{logBits, logOf};
 ghost use Rattle.elementary.specs.Two.{twoRoot, twoBits, twoRound, twoAt, floorZ, twoOf};
 ghost use Rattle.elementary.specs.Power.{powerOfZero, powerOther, powerOf, expOf, log10Of};
 
+// 1 and 2 as M and P of Log and Two have them, in units of 2^-62.
+const ONE: u64 = 0x4000_0000_0000_0000;
+
+const TWO: u64 = 0x8000_0000_0000_0000;
+
+// A digit of 31 bits.
+const DIGIT: u64 = 0x8000_0000;
+
+// L and E count in units of 2^-40.
+const TWO_40: u64 = 0x100_0000_0000;
+
+const SCALE: i64 = TWO_40 as i64;
+
+const SCALE_64: f64 = TWO_40 as f64;
+
+// What Two is worked out for: n from -1022 to 1023.
+const TWO_LEAST: f64 = -1022.0 * SCALE_64;
+
+const TWO_END: f64 = 1024.0 * SCALE_64;
+
+// The logarithms of e to the base 2 and of 2 to the base 10.
+const LOG2_E: f64 = 1.4426950408889634;
+
+const LOG10_2: f64 = 0.3010299956639812;
+
 // floor(a * b / 2^62), by digits of 31 bits: each column of products fits 64 bits.
 fn mul_shift62(a: u64, b: u64) -> u64
     requires { ⌜ (a < 2 ^ 63) × (b < 2 ^ 63) ⌝ }
     ensures { λ r. ⌜ r ≡ a * b / 2 ^ 62 ⌝ }
 {
-    let a1 = a / 0x8000_0000;
-    let a0 = a % 0x8000_0000;
-    let b1 = b / 0x8000_0000;
-    let b0 = b % 0x8000_0000;
-    let middle = a1 * b0 + a0 * b1 + a0 * b0 / 0x8000_0000;
-    a1 * b1 + middle / 0x8000_0000
+    let a1 = a / DIGIT;
+    let a0 = a % DIGIT;
+    let b1 = b / DIGIT;
+    let b0 = b % DIGIT;
+    let middle = a1 * b0 + a0 * b1 + a0 * b0 / DIGIT;
+    a1 * b1 + middle / DIGIT
 }
 
 // The forty bits of Log's fraction for M, which stands for M / 2^62: square, and take the bit at 2^63.
@@ -35,7 +60,7 @@ fn log_bits(m: u64) -> u64
     let mut left: u64 = 40;
     while 0 < left {
         let s = mul_shift62(m, m);
-        if 0x8000_0000_0000_0000 <= s {
+        if TWO <= s {
             m = s / 2;
             bits = bits * 2 + 1;
         } else {
@@ -52,7 +77,7 @@ fn log_fraction(m: u64) -> u64
     requires { ⌜ m < 2 ^ 63 ⌝ }
     ensures { λ r. ⌜ (r ≡ logBits 40 m 0) × (r < 2 ^ 40) ⌝ }
 {
-    if m == 0x4000_0000_0000_0000 {
+    if m == ONE {
         return 0;
     }
     log_bits(m)
@@ -66,7 +91,7 @@ fn log_scaled(m: u64, k: u64) -> i64
     let zeros = u64::leading_zeros(m) as u64;
     let fraction = log_fraction(m << (zeros - 1));
     let q: i64 = (k + (64 - zeros)) as i64 - 1075;
-    q * 0x100_0000_0000 + fraction as i64
+    q * SCALE + fraction as i64
 }
 
 // L of a finite b above zero; it is below zero for b under 1.
@@ -74,7 +99,7 @@ fn log(b: f64) -> i64
     requires { ⌜ T (positive b) ⌝ }
     ensures { λ r. ⌜ r ≡ logOf b ⌝ }
 {
-    let p = floats::parts(floats::bits_of_f64(b), 0x10_0000_0000_0000);
+    let p = floats::parts(floats::bits_of_f64(b), floats::FIELD);
     log_scaled(p.digits, p.exponent)
 }
 
@@ -133,8 +158,8 @@ fn two_root(j: usize) -> u64
 fn two_bits(f: u64) -> u64
     ensures { λ r. ⌜ (r ≡ twoBits 40 f (2 ^ 62)) × (2 ^ 62 ≤ r) × (r < 2 ^ 63) ⌝ }
 {
-    let mut p: u64 = 0x4000_0000_0000_0000;
-    let mut rest = f % 0x100_0000_0000;
+    let mut p: u64 = ONE;
+    let mut rest = f % TWO_40;
     while 0 < rest {
         let k = (63 - u64::leading_zeros(rest)) as usize;
         p = mul_shift62(p, two_root(40 - k));
@@ -157,9 +182,9 @@ fn two_whole(e: i64) -> f64
     ensures { λ r. ⌜ r ≡ twoAt e ⌝ }
 {
     let n: i64 = e >> 40;
-    let f = (e - n * 0x100_0000_0000) as u64;
+    let f = (e - n * SCALE) as u64;
     let field = (n + 1022) as u64;
-    f64::from_bits(field * 0x10_0000_0000_0000 + two_round(two_bits(f)))
+    f64::from_bits(field * floats::FIELD + two_round(two_bits(f)))
 }
 
 // floor(p) as an i64, for a p from -1022 * 2^40 to below 2^50.
@@ -177,13 +202,13 @@ pub fn two(p: f64) -> f64
     if p != p {
         return p;
     }
-    if p < -1123700883587072.0 {
+    if p < TWO_LEAST {
         return 0.0;
     }
-    if p < 1125899906842624.0 {
+    if p < TWO_END {
         return two_whole(floor_i64(p));
     }
-    f64::from_bits(0x7FF0_0000_0000_0000)
+    f64::from_bits(floats::INFINITY_BITS)
 }
 
 // Power of the base 0.
@@ -195,7 +220,7 @@ fn power_of_zero(e: f64) -> f64
     } else if 0.0 < e {
         0.0
     } else {
-        f64::from_bits(0x7FF0_0000_0000_0000)
+        f64::from_bits(floats::INFINITY_BITS)
     }
 }
 
@@ -204,13 +229,13 @@ fn power_other(b: f64, e: f64) -> f64
     ensures { λ r. ⌜ r ≡ powerOther b e ⌝ }
 {
     if !floats::is_finite(b) {
-        return 0.0 / 0.0;
+        return floats::nan();
     }
     if !floats::is_finite(e) {
-        return 0.0 / 0.0;
+        return floats::nan();
     }
     if b < 0.0 {
-        return 0.0 / 0.0;
+        return floats::nan();
     }
     if 0.0 < b {
         return two(e * (log(b) as f64));
@@ -238,9 +263,9 @@ pub fn exp(x: f64) -> f64
     ensures { λ r. ⌜ r ≡ expOf x ⌝ }
 {
     if floats::is_finite(x) {
-        two(x * 1.4426950408889634 * 1099511627776.0)
+        two(x * LOG2_E * SCALE_64)
     } else {
-        0.0 / 0.0
+        floats::nan()
     }
 }
 
@@ -249,10 +274,10 @@ pub fn log10(b: f64) -> f64
     ensures { λ r. ⌜ r ≡ log10Of b ⌝ }
 {
     if !floats::is_finite(b) {
-        return 0.0 / 0.0;
+        return floats::nan();
     }
     if 0.0 < b {
-        return log(b) as f64 / 1099511627776.0 * 0.3010299956639812;
+        return log(b) as f64 / SCALE_64 * LOG10_2;
     }
-    0.0 / 0.0
+    floats::nan()
 }

@@ -14,6 +14,8 @@ use lib.Ieee.{Float, nan, inf, fin, Format, binary32, binary64, prec, emax, low,
 use lib.Ieee.Fits.{and-l, down-pos, up-pos, odd-fits, inf-fits, round-is}
 use lib.Ieee.Bits.{is-true, is-false, cond-no, ofBits-fits}
 use lib.Ieee.Exact.{HasValue, odd-sign, units-val}
+use Rattle.floats.specs.Pattern.{sigOf, expOf, signed}
+use native.Mathlib.Nat.{mod-eq-sub-mod}
 
 -- ---- one of two orders, decided
 pub lt-or-ge : (a b : ℕ) → (a < b) ⊎ (b ≤ a)
@@ -50,7 +52,7 @@ flat (pos zero) h = refl
 flat (pos (suc k)) h = absurd (two-up (2 ^ k) (pow-pos k) (sym (pow-succ' 2 k) ∙ sym (mul-one (2 ^ suc k)) ∙ h))
 flat (negsuc k) h = absurd (two-up (2 ^ k) (pow-pos k) (sym (pow-succ' 2 k) ∙ sym (one-mul (2 ^ suc k)) ∙ h))
 
-zero-exp : (f : Format) (s : Bool) (e : ℤ) → T (fits f (fin s zero e)) → e ≡ pos 0
+pub zero-exp : (f : Format) (s : Bool) (e : ℤ) → T (fits f (fin s zero e)) → e ≡ pos 0
 unfolding fits
 zero-exp f s e t = flat e (eqb→eq (up e * down e) 1 t)
 
@@ -98,26 +100,9 @@ value-unique f (fin t (suc m) e) (fin u (suc n) g) s a c C p q v w =
     let r = same-exp (suc m) (suc n) e g (is-odd f t m e p) (is-odd f u n g q) (cross (suc m * up e) (down e) (suc n * up g) (down g) a c C (v .1) (w .1)) in
     λ i. fin ((v .0 ∙ sym (w .0)) i) (r .0 i) (r .1 i)
 
--- ---- what a bit pattern stands for. b is the pattern without its sign
--- the significand, the leading digit put back, and the exponent, counted from the format's smallest value
-abbrev pub sigAt : ℕ → ℕ → ℕ
-sigAt h b = cond (ltb b h) b (h + b % h)
-
-abbrev pub expAt : ℕ → ℕ → ℕ
-expAt h b = b / h - 1
-
-abbrev pub sigOf : Format → ℕ → ℕ
-sigOf f b = sigAt (hid f) b
-
-abbrev pub expOf : Format → ℕ → ℕ
-expOf f b = expAt (hid f) b
-
+-- ---- what a bit pattern stands for
 pred : (x : ℕ) → suc x - 1 ≡ x
 pred x = omega arith
-
--- the pattern with the sign s
-abbrev pub signed : Format → Bool → ℕ → ℕ
-signed f s b = cond s (top f) 0 + b
 
 pub hid-pos : (f : Format) → 0 < hid f
 hid-pos f = pow-pos (prec f - 1)
@@ -349,3 +334,26 @@ sig-short f b = subst (λ (w : ℕ). sigOf f b < w) (sym (twice-hid f)) (go (ltb
     go : (c : Bool) → (T c → b < hid f) → b % hid f < hid f → cond c b (hid f + b % hid f) < 2 * hid f
     go true l r = yes b (hid f) (l tt)
     go false l r = no (b % hid f) (hid f) r
+
+-- a pattern is a sign and a rest
+pub sign-split : (f : Format) (b : ℕ) → b < 2 * top f → ((b < top f) × (b % top f ≡ b)) ⊎ ((top f ≤ b) × (b ≡ signed f true (b % top f)))
+sign-split f b h = elim (lt-or-ge b (top f)) [
+  | inl l ↦ inl (l, mod-eq-of-lt l)
+  | inr g ↦
+      let r : b % top f ≡ b - top f = mod-eq-sub-mod g ∙ mod-eq-of-lt (less b (top f) h g) in
+      inr (g, sym (ap (λ (x : ℕ). top f + x) r ∙ add-sub-of-le g))
+]
+  where
+    less : (b t : ℕ) → b < 2 * t → t ≤ b → b - t < t
+    less b t h g = omega arith
+
+-- the exponent of a finite pattern
+pub exp-small : (f : Format) (b : ℕ) → b < ones f * hid f → suc (expOf f b) < ones f
+exp-small f b h = go (b / hid f) (ones f) (div-lt-iff-lt-mul (hid-pos f) .1 h) (some f)
+  where
+    some : (f : Format) → 2 < ones f
+    some binary32 = lit< tt
+    some binary64 = lit< tt
+
+    go : (x o : ℕ) → x < o → 2 < o → suc (x - 1) < o
+    go x o h k = omega arith

@@ -6,15 +6,53 @@ ghost use lib.Ieee as Ieee;
 ghost use lib.Ieee.{binary32, binary64};
 ghost use lib.Ieee.Scale.{finite};
 ghost use Rattle.floats.specs.Fields.{u32At, u64At, f32At, f64At};
-ghost use Rattle.floats.specs.Value.{sigAt, expAt};
+ghost use Rattle.floats.specs.Pattern.{sigAt, expAt};
 ghost use Rattle.floats.specs.Compare.{maxOf, minOf, clampOf, absOf};
+
+// The weight of the sign in an f64's bit pattern, and in an f32's. An f32's pattern is worked on as a u64.
+pub const SIGN: u64 = 0x8000_0000_0000_0000;
+
+pub const SIGN_32: u64 = 0x8000_0000;
+
+// The patterns of infinity.
+pub const INFINITY_BITS: u64 = 0x7FF0_0000_0000_0000;
+
+pub const INFINITY_BITS_32: u64 = 0x7F80_0000;
+
+// The weights of the exponent's field: 2^52 and 2^23.
+pub const FIELD: u64 = 0x10_0000_0000_0000;
+
+pub const FIELD_32: u64 = 0x80_0000;
+
+const SIGN_U32: u32 = SIGN_32 as u32;
+
+const INFINITY_U32: u32 = INFINITY_BITS_32 as u32;
+
+// From 2^52 on every f64 is a whole number.
+pub const TWO_52: f64 = 4503599627370496.0;
+
+pub const PI: f64 = 3.141592653589793;
+
+// NaN. No constant can hold it.
+pub fn nan() -> f64
+    ensures { λ r. ⌜ r ≡ Ieee.nan ⌝ }
+{
+    0.0 / 0.0
+}
+
+// NaN as an f32.
+pub fn nan_32() -> f32
+    ensures { λ r. ⌜ r ≡ Ieee.nan ⌝ }
+{
+    0.0 / 0.0
+}
 
 // The f64 of a bit pattern; every NaN pattern gives NaN.
 pub fn f64_of_bits(b: u64) -> f64
     ensures { λ r. ⌜ r ≡ Ieee.ofBits binary64 b ⌝ }
 {
-    if 0x7FF0_0000_0000_0000 < b % 0x8000_0000_0000_0000 {
-        0.0 / 0.0
+    if INFINITY_BITS < b % SIGN {
+        nan()
     } else {
         f64::from_bits(b)
     }
@@ -24,8 +62,8 @@ pub fn f64_of_bits(b: u64) -> f64
 pub fn f32_of_bits(b: u32) -> f32
     ensures { λ r. ⌜ r ≡ Ieee.ofBits binary32 b ⌝ }
 {
-    if 0x7F80_0000 < b % 0x8000_0000 {
-        0.0 / 0.0
+    if INFINITY_U32 < b % SIGN_U32 {
+        nan_32()
     } else {
         f32::from_bits(b)
     }
@@ -78,17 +116,14 @@ pub fn parts(b: u64, hid: u64) -> Scaled
 pub fn widen(x: f32) -> f64
     ensures { λ r. ⌜ r ≡ x ⌝ }
 {
-    if x != x {
-        return 0.0 / 0.0;
-    }
-    x as f64
+    if x != x { nan() } else { x as f64 }
 }
 
 // Whether x is neither an infinity nor a NaN.
 pub fn is_finite(x: f64) -> bool
     ensures { λ r. ⌜ r ≡ finite x ⌝ }
 {
-    let infinity = f64::from_bits(0x7FF0_0000_0000_0000);
+    let infinity = f64::from_bits(INFINITY_BITS);
     -infinity < x && x < infinity
 }
 

@@ -1,3 +1,4 @@
+pub mod Radii
 pub mod Walk
 pub mod Placing
 pub mod Laws

@@ -1,20 +1,25 @@
 -- The constants of src/osu/difficulty/object.rs. Definitions only.
 use lib.IntN.{pos}
 use lib.Ieee as Ieee
-use lib.Ieee.{Float, binary64}
+use lib.Ieee.{Float, binary32, binary64}
 use Rattle.floats.specs.Numbers.{f32, f64}
+use Rattle.pos.specs.Pos.{_⊗₃_}
 
 -- NORMALIZED_RADIUS as an f64
 abbrev pub normalizedRadius : Float
 normalizedRadius = Ieee.ofInt binary64 (pos 50)
 
+-- NORMALIZED_RADIUS as an f32
+abbrev pub normalizedRadius32 : Float
+normalizedRadius32 = Ieee.ofInt binary32 (pos 50)
+
 -- MAX_SLIDER_RADIUS: 50 × 2.4 in f32, which is one unit above 120
-abbrev pub maxSliderRadius : Float
-maxSliderRadius = f32 0x42F00001
+unfoldable pub maxSliderRadius : Float
+maxSliderRadius = normalizedRadius32 ⊗₃ f32 0x4019999A
 
 -- ASSUMED_SLIDER_RADIUS: 50 × 1.8 in f32, which is 90
-abbrev pub assumedSliderRadius : Float
-assumedSliderRadius = f32 0x42B40000
+unfoldable pub assumedSliderRadius : Float
+assumedSliderRadius = normalizedRadius32 ⊗₃ f32 0x3FE66666
 
 -- MIN_DELTA_TIME: 25
 abbrev pub minDeltaTime : Float

@@ -5,6 +5,21 @@ ghost use lib.Ieee.{binary32, binary64};
 ghost use Rattle.roots.specs.Root.{square, rootOf};
 ghost use Rattle.roots.specs.Digits.{RootRest, Radicand, NearestRoot};
 
+// The digits that a format keeps, and the exponent of its smallest value, 2^-1074 or 2^-149.
+const DIGITS_64: u64 = 53;
+
+const DIGITS_32: u64 = 24;
+
+const LOW_64: u64 = 1074;
+
+const LOW_32: u64 = 149;
+
+// The two highest of 64 digits weigh this.
+const TOP_PAIR: u64 = 0x4000_0000_0000_0000;
+
+// Half of a long root's digits are below this.
+const HALF: u64 = 0x400_0000;
+
 // A whole root, and what is left of the number.
 struct Digits {
     root: u64,
@@ -41,8 +56,8 @@ fn digit_loop(m: u64, d: u64) -> Digits
     let mut left = m;
     let mut i = 0;
     while i < d {
-        s = next_digit(s, left / 0x4000_0000_0000_0000);
-        left = left % 0x4000_0000_0000_0000 * 4;
+        s = next_digit(s, left / TOP_PAIR);
+        left = left % TOP_PAIR * 4;
         i += 1;
     }
     s
@@ -63,7 +78,7 @@ fn near_root(n: u64) -> u64
     let y2 = y1 * (1.5 - half * y1 * y1);
     let y3 = y2 * (1.5 - half * y2 * y2);
     // The sum with 2^52 has the whole number in its last digits.
-    floats::bits_of_f64(x * y3 * 2.0 + 4503599627370496.0) % 0x8000_0000
+    floats::bits_of_f64(x * y3 * 2.0 + floats::TWO_52) % 0x8000_0000
 }
 
 fn one_less(s: u64) -> u64
@@ -112,7 +127,7 @@ fn joined_root(m: u64, h: u64, q: u64, up: u64) -> Digits
     requires { ⌜ (h < 2 ^ 28) × (q < 2 ^ 31) × (up < 2 ^ 60) × (m * 2 ^ 42 + square q ≡ square (h * 2 ^ 26 + q) + up) ⌝ }
     ensures { λ r. ⌜ RootRest (m * 2 ^ 42) (r .root) (r .rest) ⌝ }
 {
-    let s = h * 0x400_0000 + q;
+    let s = h * HALF + q;
     let square = q * q;
     if square <= up {
         let rest = up - square;
@@ -131,7 +146,7 @@ fn joined_root(m: u64, h: u64, q: u64, up: u64) -> Digits
             };
         }
     }
-    digit_loop(m, 53)
+    digit_loop(m, DIGITS_64)
 }
 
 // The root of m * 2^42, from the root of its upper half and a division by twice that.
@@ -141,13 +156,13 @@ fn long_root(m: u64) -> Digits
     let top = whole_root(m / 1024);
     let h = top.root;
     if 0 < h {
-        let a = top.rest * 0x400_0000 + m % 1024 * 0x1_0000;
+        let a = top.rest * HALF + m % 1024 * 0x1_0000;
         let q = a / (2 * h);
         if q < 0x8000_0000 {
-            return joined_root(m, h, q, a % (2 * h) * 0x400_0000);
+            return joined_root(m, h, q, a % (2 * h) * HALF);
         }
     }
-    digit_loop(m, 53)
+    digit_loop(m, DIGITS_64)
 }
 
 // The root of the whole part of m * 4^d / 2^64.
@@ -155,9 +170,9 @@ fn root_digits(m: u64, d: u64) -> Digits
     requires { ⌜ d ≤ 56 ⌝ }
     ensures { λ r. ⌜ RootRest (m * 4 ^ d / 2 ^ 64) (r .root) (r .rest) ⌝ }
 {
-    if d == 53 {
+    if d == DIGITS_64 {
         long_root(m)
-    } else if d == 24 {
+    } else if d == DIGITS_32 {
         whole_root(m / 0x1_0000)
     } else {
         digit_loop(m, d)
@@ -192,16 +207,16 @@ pub fn root64(x: f64) -> f64
     ensures { λ r. ⌜ r ≡ rootOf binary64 x ⌝ }
 {
     let b = floats::bits_of_f64(x);
-    if b % 0x8000_0000_0000_0000 == 0 {
+    if b % floats::SIGN == 0 {
         x
-    } else if 0x7FF0_0000_0000_0000 < b {
-        0.0 / 0.0
-    } else if b == 0x7FF0_0000_0000_0000 {
+    } else if floats::INFINITY_BITS < b {
+        floats::nan()
+    } else if b == floats::INFINITY_BITS {
         x
     } else {
-        let p = floats::parts(b, 0x10_0000_0000_0000);
-        let r = nearest_root(p.digits, p.exponent + 1074, 53);
-        floats::f64_of_bits(r.exponent * 0x10_0000_0000_0000 + r.digits)
+        let p = floats::parts(b, floats::FIELD);
+        let r = nearest_root(p.digits, p.exponent + LOW_64, DIGITS_64);
+        floats::f64_of_bits(r.exponent * floats::FIELD + r.digits)
     }
 }
 
@@ -210,15 +225,15 @@ pub fn root32(x: f32) -> f32
     ensures { λ r. ⌜ r ≡ rootOf binary32 x ⌝ }
 {
     let b = floats::bits_of_f32(x) as u64;
-    if b % 0x8000_0000 == 0 {
+    if b % floats::SIGN_32 == 0 {
         x
-    } else if 0x7F80_0000 < b {
-        0.0 / 0.0
-    } else if b == 0x7F80_0000 {
+    } else if floats::INFINITY_BITS_32 < b {
+        floats::nan_32()
+    } else if b == floats::INFINITY_BITS_32 {
         x
     } else {
-        let p = floats::parts(b, 0x80_0000);
-        let r = nearest_root(p.digits, p.exponent + 149, 24);
-        floats::f32_of_bits((r.exponent * 0x80_0000 + r.digits) as u32)
+        let p = floats::parts(b, floats::FIELD_32);
+        let r = nearest_root(p.digits, p.exponent + LOW_32, DIGITS_32);
+        floats::f32_of_bits((r.exponent * floats::FIELD_32 + r.digits) as u32)
     }
 }

@@ -16,7 +16,8 @@ use lib.Ieee.Scale.{round-same}
 use lib.Ieee.Fits.{down-pos, round-is, and-l}
 use Rattle.floats.specs.Numbers.{_⊗_}
 use Rattle.whole.specs.Whole.{above, ceilOf}
-use Rattle.whole.specs.Add52.{clear, whole-lt}
+use Rattle.whole.specs.Whole.{clear}
+use Rattle.whole.specs.WholeValues.{whole-lt}
 use Rattle.skills.specs.Strains.{sectionLength, firstEnd}
 use Rattle.skills.proofs.Ends.{whole, EndAt, end-at}
 

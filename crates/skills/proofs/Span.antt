@@ -17,7 +17,7 @@ use lib.Ieee.Fits.{down-pos}
 use lib.Ieee.Positive.{above-of-le, le→cross}
 use borrow.Author.Tests.{lt-ltb}
 use Rattle.floats.specs.Numbers.{f64}
-use Rattle.whole.specs.Add52.{whole-lt, whole-ge}
+use Rattle.whole.specs.WholeValues.{whole-lt, whole-ge}
 use Rattle.skills.proofs.Ends.{whole}
 
 -- 3,000,000

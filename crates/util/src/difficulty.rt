@@ -2,6 +2,9 @@
 ghost use mathlib.Core.Path.{_≡_};
 ghost use Rattle.util.specs.Difficulty as Difficulty;
 
+// In milliseconds.
+const MINUTE: f64 = 60000.0;
+
 // Parts of a beat.
 pub const DEFAULT_DELIMITER: f64 = 4.0;
 
@@ -9,14 +12,14 @@ pub const DEFAULT_DELIMITER: f64 = 4.0;
 pub fn bpm_to_milliseconds(bpm: f64, delimiter: f64) -> f64
     ensures { λ r. ⌜ r ≡ Difficulty.bpmToMilliseconds bpm delimiter ⌝ }
 {
-    60000.0 / delimiter / bpm
+    MINUTE / delimiter / bpm
 }
 
 // The beats per minute of a part of a beat that lasts so long.
 pub fn milliseconds_to_bpm(ms: f64, delimiter: f64) -> f64
     ensures { λ r. ⌜ r ≡ Difficulty.millisecondsToBpm ms delimiter ⌝ }
 {
-    60000.0 / (ms * delimiter)
+    MINUTE / (ms * delimiter)
 }
 
 // From 0 to max_value, half of it at the midpoint.

@@ -1,8 +1,6 @@
 pub mod Narrow
 pub mod NarrowLaws
-pub mod NarrowFast
 pub mod Whole
 pub mod WholeLaws
-pub mod Add52
-pub mod Rest
+pub mod WholeValues
 pub mod ToInt

@@ -6,12 +6,35 @@ ghost use lib.Ieee.{binary32, binary64};
 ghost use lib.Ieee.Nearest.{closest};
 ghost use lib.Dec.{T};
 ghost use Rattle.floats.specs.Numbers.{one64, two64};
-ghost use Rattle.whole.specs.Narrow.{narrow};
-ghost use Rattle.whole.specs.NarrowLaws.{Narrowed};
-ghost use Rattle.whole.specs.Whole.{truncOf, floorOf, ceilOf};
-ghost use Rattle.whole.specs.Add52.{Small, clear};
+ghost use Rattle.whole.specs.Narrow.{narrow, Narrowed};
+ghost use Rattle.whole.specs.Whole.{truncOf, floorOf, ceilOf, toI32, Small, clear};
 
 // ---- f64 to f32, from the bits
+
+// 29 of 53 digits are dropped: this is one unit of what is kept.
+const UNIT: u64 = 0x2000_0000;
+
+// The most that is less than half of it.
+const BELOW_HALF: u64 = 0xFFF_FFFF;
+
+// Exponents, as `floats::parts` counts them: below this all is less than half of the smallest f32.
+const LOWEST: u64 = 865;
+
+// From here on an f32 has all its digits.
+const NORMAL: u64 = 896;
+
+// Below that it drops this many, less the exponent.
+const SUBNORMAL: u64 = 925;
+
+// From here on it is an infinity.
+const OVERFLOW: u64 = 1150;
+
+// The patterns of NORMAL and OVERFLOW, and what the exponent's field is less in an f32.
+const NORMAL_BITS: u64 = (NORMAL + 1) * floats::FIELD;
+
+const OVERFLOW_BITS: u64 = (OVERFLOW + 1) * floats::FIELD;
+
+const BIAS: u64 = NORMAL * floats::FIELD_32;
 
 // 2^d.
 fn power_of_two(d: u64) -> u64
@@ -42,16 +65,16 @@ fn narrow_by_range(c: u64) -> u64
     requires { ⌜ c < 0x7FF0000000000000 ⌝ }
     ensures { λ r. ⌜ Narrowed c r ⌝ }
 {
-    let p = floats::parts(c, 0x10_0000_0000_0000);
+    let p = floats::parts(c, floats::FIELD);
     let k = p.exponent;
-    if k < 865 {
+    if k < LOWEST {
         0
-    } else if k < 896 {
-        nearest_quotient(p.digits, power_of_two(925 - k))
-    } else if k < 1150 {
-        (k - 896) * 0x80_0000 + nearest_quotient(p.digits, 0x2000_0000)
+    } else if k < NORMAL {
+        nearest_quotient(p.digits, power_of_two(SUBNORMAL - k))
+    } else if k < OVERFLOW {
+        (k - NORMAL) * floats::FIELD_32 + nearest_quotient(p.digits, UNIT)
     } else {
-        0x7F80_0000
+        floats::INFINITY_BITS_32
     }
 }
 
@@ -61,9 +84,9 @@ fn narrow_bits(c: u64) -> u64
     requires { ⌜ c < 0x7FF0000000000000 ⌝ }
     ensures { λ r. ⌜ Narrowed c r ⌝ }
 {
-    if 0x3810_0000_0000_0000 <= c {
-        if c < 0x47F0_0000_0000_0000 {
-            return (c + 0xFFF_FFFF + c / 0x2000_0000 % 2) / 0x2000_0000 - 0x1_C000_0000;
+    if NORMAL_BITS <= c {
+        if c < OVERFLOW_BITS {
+            return (c + BELOW_HALF + c / UNIT % 2) / UNIT - BIAS;
         }
     }
     narrow_by_range(c)
@@ -74,14 +97,14 @@ pub fn f64_to_f32(x: f64) -> f32
     ensures { λ r. ⌜ r ≡ narrow binary32 x ⌝ }
 {
     let b = floats::bits_of_f64(x);
-    let c = b % 0x8000_0000_0000_0000;
-    let sign = b / 0x8000_0000_0000_0000 * 0x8000_0000;
-    if c < 0x7FF0_0000_0000_0000 {
+    let c = b % floats::SIGN;
+    let sign = b / floats::SIGN * floats::SIGN_32;
+    if c < floats::INFINITY_BITS {
         floats::f32_of_bits((sign + narrow_bits(c)) as u32)
-    } else if c == 0x7FF0_0000_0000_0000 {
-        floats::f32_of_bits((sign + 0x7F80_0000) as u32)
+    } else if c == floats::INFINITY_BITS {
+        floats::f32_of_bits((sign + floats::INFINITY_BITS_32) as u32)
     } else {
-        0.0 / 0.0
+        floats::nan_32()
     }
 }
 
@@ -93,7 +116,7 @@ fn whole_below(a: f64) -> f64
     requires { ⌜ Small a ⌝ }
     ensures { λ r. ⌜ r ≡ truncOf binary64 a ⌝ }
 {
-    let t = a + 4503599627370496.0 - 4503599627370496.0;
+    let t = a + floats::TWO_52 - floats::TWO_52;
     if a < t { t - 1.0 } else { t }
 }
 
@@ -111,10 +134,10 @@ pub fn trunc(x: f64) -> f64
     ensures { λ r. ⌜ r ≡ truncOf binary64 x ⌝ }
 {
     let b = floats::bits_of_f64(x);
-    let a = floats::f64_of_bits(b % 0x8000_0000_0000_0000);
-    if a < 4503599627370496.0 {
+    let a = floats::f64_of_bits(b % floats::SIGN);
+    if a < floats::TWO_52 {
         let w = whole_below(a);
-        if b < 0x8000_0000_0000_0000 { w } else { -w }
+        if b < floats::SIGN { w } else { -w }
     } else {
         x
     }
@@ -125,9 +148,9 @@ pub fn floor(x: f64) -> f64
     ensures { λ r. ⌜ r ≡ floorOf binary64 x ⌝ }
 {
     let b = floats::bits_of_f64(x);
-    let a = floats::f64_of_bits(b % 0x8000_0000_0000_0000);
-    if a < 4503599627370496.0 {
-        if b < 0x8000_0000_0000_0000 {
+    let a = floats::f64_of_bits(b % floats::SIGN);
+    if a < floats::TWO_52 {
+        if b < floats::SIGN {
             whole_below(a)
         } else {
             -whole_above(a)
@@ -142,9 +165,9 @@ pub fn ceil(x: f64) -> f64
     ensures { λ r. ⌜ r ≡ ceilOf binary64 x ⌝ }
 {
     let b = floats::bits_of_f64(x);
-    let a = floats::f64_of_bits(b % 0x8000_0000_0000_0000);
-    if a < 4503599627370496.0 {
-        if b < 0x8000_0000_0000_0000 {
+    let a = floats::f64_of_bits(b % floats::SIGN);
+    if a < floats::TWO_52 {
+        if b < floats::SIGN {
             whole_above(a)
         } else {
             -whole_below(a)
@@ -161,17 +184,20 @@ pub fn rem_one(x: f64) -> f64
     ensures { λ r. ⌜ r ≡ Ieee.rem binary64 x one64 ⌝ }
 {
     let b = floats::bits_of_f64(x);
-    let a = floats::f64_of_bits(b % 0x8000_0000_0000_0000);
+    let a = floats::f64_of_bits(b % floats::SIGN);
     let r = a - trunc(a);
-    if b < 0x8000_0000_0000_0000 { r } else { -r }
+    if b < floats::SIGN { r } else { -r }
 }
 
-// a % 2.0 for an a with its sign clear. From 2^53 on every number is even, and a - a is 0, or NaN where a is not finite.
+// From 2^53 on every f64 is even.
+const TWO_53: f64 = 9007199254740992.0;
+
+// a % 2.0 for an a with its sign clear. From TWO_53 on a - a is 0, or NaN where a is not finite.
 fn below_two(a: f64) -> f64
     requires { ⌜ T (clear a) ⌝ }
     ensures { λ r. ⌜ r ≡ Ieee.rem binary64 a two64 ⌝ }
 {
-    if a < 9007199254740992.0 {
+    if a < TWO_53 {
         let h = trunc(trunc(a) * 0.5);
         a - (h + h)
     } else {
@@ -184,22 +210,27 @@ pub fn rem_two(x: f64) -> f64
     ensures { λ r. ⌜ r ≡ Ieee.rem binary64 x two64 ⌝ }
 {
     let b = floats::bits_of_f64(x);
-    let a = floats::f64_of_bits(b % 0x8000_0000_0000_0000);
+    let a = floats::f64_of_bits(b % floats::SIGN);
     let r = below_two(a);
-    if b < 0x8000_0000_0000_0000 { r } else { -r }
+    if b < floats::SIGN { r } else { -r }
 }
 
 // ---- f64 to i32
 
+// The ends of the range.
+const LEAST_I32: f64 = -2147483648.0;
+
+const MOST_I32: f64 = 2147483647.0;
+
 // x as an i32: toward zero, the end of the range beyond it, and 0 for NaN.
 pub fn to_i32(x: f64) -> i32
-    ensures { λ r. ⌜ r ≡ Ieee.toSigned 31 x ⌝ }
+    ensures { λ r. ⌜ r ≡ toI32 x ⌝ }
 {
     if x != x {
         0
-    } else if x <= -2147483648.0 {
+    } else if x <= LEAST_I32 {
         -2147483648
-    } else if 2147483647.0 <= x {
+    } else if MOST_I32 <= x {
         2147483647
     } else {
         std::num::truncating_f64_to_i64(x) as i32

@@ -20,18 +20,26 @@ det-finite c = sym (c .before .is-finite2 .ensures) ∙ not-false (c .before .is
 is-finite-requires : tie.Need-is-finite-requires
 is-finite-requires c κs = search needs
 
+nan-requires : tie.Need-nan-requires
+nan-requires c κs = search needs
+
 returns : tie.Need-returns
 returns c =
-    let f = c .before .is-finite in
-    dot-not-finite (c .before .before .args .dot) (c .before .before .args .det) (sym (f .ensures) ∙ not-true (f .result) (c .if1 .taken))
+    let t = c .before in
+    let f = t .before .is-finite in
+    c .nan .ensures ∙ dot-not-finite (t .before .before .args .dot) (t .before .before .args .det) (sym (f .ensures) ∙ not-true (f .result) (t .if1 .taken))
 
 is-finite-requires-2 : tie.Need-is-finite-requires-2
 is-finite-requires-2 c κs = search needs
 
+nan-requires-2 : tie.Need-nan-requires-2
+nan-requires-2 c κs = search needs
+
 returns-2 : tie.Need-returns-2
 returns-2 c =
-    let f = c .before .is-finite2 in
-    det-not-finite (c .before .before .before .before .args .dot) (c .before .before .before .before .args .det) (sym (f .ensures) ∙ not-true (f .result) (c .if2 .taken))
+    let t = c .before in
+    let f = t .before .is-finite2 in
+    c .nan2 .ensures ∙ det-not-finite (t .before .before .before .before .args .dot) (t .before .before .before .before .args .det) (sym (f .ensures) ∙ not-true (f .result) (t .if2 .taken))
 
 direction-requires : tie.Need-direction-requires
 direction-requires c κs = (dot-finite c, det-finite c)
@@ -60,4 +68,4 @@ returns-4 c =
     ∙ turned-answer (c .before .before .before .before .before .before .before .before .before .before .args .dot) (c .before .before .before .before .before .before .before .before .before .before .args .det) (dot-finite (c .before .before .before .before .before .before)) (det-finite (c .before .before .before .before .before .before)) (d .result) (d .ensures .0) a
 
 pub angle-spec : {M : Type 1} → statement M
-angle-spec = tie.close (tie.spec is-finite-requires returns is-finite-requires-2 returns-2 direction-requires straight-angle-requires returns-3 bits-of-requires angle-of-bits-requires returns-4)
+angle-spec = tie.close (tie.spec is-finite-requires nan-requires returns is-finite-requires-2 nan-requires-2 returns-2 direction-requires straight-angle-requires returns-3 bits-of-requires angle-of-bits-requires returns-4)

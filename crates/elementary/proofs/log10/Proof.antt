@@ -7,7 +7,6 @@ use lib.Dec.{T}
 use lib.Ieee.{binary64, ofInt, fits, inFloat}
 use mir.Syntax.{w64}
 use mir.Val.{toZ, ofZ}
-use Rattle.floats.specs.Bits.{zero-by-zero}
 use Rattle.floats.specs.Numbers.{_⊗_, _⊘_}
 use Rattle.elementary.specs.Power.{log10Of, two40, log10Of2}
 use Rattle.elementary.specs.Log.{logOf}
@@ -19,9 +18,12 @@ use Rattle.elementary.proofs.log10.Tie as tie
 is-finite-requires : tie.Need-is-finite-requires
 is-finite-requires c κs = search needs
 
+nan-requires : tie.Need-nan-requires
+nan-requires c κs = search needs
+
 returns : tie.Need-returns
 unfolding log10Of
-returns c = let n = sym (c .before .is-finite .ensures) ∙ not-true _ (c .if1 .taken) in zero-by-zero binary64 ∙ simp n
+returns c = let n = sym (c .before .before .is-finite .ensures) ∙ not-true _ (c .before .if1 .taken) in c .nan .ensures ∙ simp n
 
 log-requires : tie.Need-log-requires
 log-requires c κs = positive-above (c .before .before .before .args .b) (sym (c .before .before .is-finite .ensures) ∙ not-false _ (c .before .if1 .left)) (c .if2 .taken)
@@ -44,9 +46,15 @@ returns-2 c =
     let y = sym (t .before .before .is-finite .ensures) ∙ not-false _ (t .before .if1 .left) in
     ap (λ (z : ℤ). ofInt binary64 z ⊘ two40 ⊗ log10Of2) (logged (c .before)) ∙ simp (y, t .if2 .taken)
 
+nan-requires-2 : tie.Need-nan-requires-2
+nan-requires-2 c κs = search needs
+
 returns-3 : tie.Need-returns-3
 unfolding log10Of
-returns-3 c = let y = sym (c .before .before .is-finite .ensures) ∙ not-false _ (c .before .if1 .left) in zero-by-zero binary64 ∙ simp (y, c .if2 .left)
+returns-3 c =
+    let t = c .before in
+    let y = sym (t .before .before .is-finite .ensures) ∙ not-false _ (t .before .if1 .left) in
+    c .nan2 .ensures ∙ simp (y, t .if2 .left)
 
 pub log10-spec : {M : Type 1} → statement M
-log10-spec = tie.close (tie.spec is-finite-requires returns log-requires int-to-float-result returns-2 returns-3)
+log10-spec = tie.close (tie.spec is-finite-requires nan-requires returns log-requires int-to-float-result returns-2 nan-requires-2 returns-3)

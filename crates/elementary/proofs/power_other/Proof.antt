@@ -7,7 +7,6 @@ use lib.IntN.{ℤ}
 use lib.Ieee.{binary64, ofInt, fits, inFloat}
 use mir.Syntax.{w64}
 use mir.Val.{toZ, ofZ}
-use Rattle.floats.specs.Bits.{zero-by-zero}
 use Rattle.floats.specs.Numbers.{_⊗_}
 use Rattle.elementary.specs.Log.{logOf}
 use Rattle.elementary.specs.Two.{twoOf}
@@ -20,30 +19,40 @@ use Rattle.elementary.proofs.power_other.Tie as tie
 is-finite-requires : tie.Need-is-finite-requires
 is-finite-requires c κs = search needs
 
+nan-requires : tie.Need-nan-requires
+nan-requires c κs = search needs
+
 returns : tie.Need-returns
 unfolding powerOther
-returns c = let n = sym (c .before .is-finite .ensures) ∙ not-true _ (c .if1 .taken) in zero-by-zero binary64 ∙ simp n
+returns c = let n = sym (c .before .before .is-finite .ensures) ∙ not-true _ (c .before .if1 .taken) in c .nan .ensures ∙ simp n
 
 is-finite-requires-2 : tie.Need-is-finite-requires-2
 is-finite-requires-2 c κs = search needs
 
+nan-requires-2 : tie.Need-nan-requires-2
+nan-requires-2 c κs = search needs
+
 returns-2 : tie.Need-returns-2
 unfolding powerOther
 returns-2 c =
-    let i = c .before .before in
+    let t = c .before in
+    let i = t .before .before in
     let y = sym (i .before .is-finite .ensures) ∙ not-false _ (i .if1 .left) in
-    let n = sym (c .before .is-finite2 .ensures) ∙ not-true _ (c .if2 .taken) in
-    zero-by-zero binary64 ∙ simp (y, n)
+    let n = sym (t .before .is-finite2 .ensures) ∙ not-true _ (t .if2 .taken) in
+    c .nan2 .ensures ∙ simp (y, n)
+
+nan-requires-3 : tie.Need-nan-requires-3
+nan-requires-3 c κs = search needs
 
 -- the two tests passed: `t` is where the second one is left
 returns-3 : tie.Need-returns-3
 unfolding powerOther
 returns-3 c =
-    let t = c .before in
+    let t = c .before .before in
     let i = t .before .before in
     let y = sym (i .before .is-finite .ensures) ∙ not-false _ (i .if1 .left) in
     let z = sym (t .before .is-finite2 .ensures) ∙ not-false _ (t .if2 .left) in
-    zero-by-zero binary64 ∙ simp (y, z, c .if3 .taken)
+    c .nan3 .ensures ∙ simp (y, z, c .before .if3 .taken)
 
 log-requires : tie.Need-log-requires
 log-requires c κs =
@@ -93,4 +102,4 @@ returns-5 c =
 pub power-other-spec : {M : Type 1} → statement M
 power-other-spec =
     tie.close
-    (tie.spec is-finite-requires returns is-finite-requires-2 returns-2 returns-3 log-requires int-to-float-two two-requires returns-4 power-of-zero-requires returns-5)
+    (tie.spec is-finite-requires nan-requires returns is-finite-requires-2 nan-requires-2 returns-2 nan-requires-3 returns-3 log-requires int-to-float-two two-requires returns-4 power-of-zero-requires returns-5)

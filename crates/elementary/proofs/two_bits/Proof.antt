@@ -12,7 +12,7 @@ use lib.Ieee.Digits.{size-lt, size-reaches, size-le}
 use Rattle.elementary.specs.Two.{twoRoot, twoBits}
 use Rattle.elementary.specs.Significand.{size-pos, size-zeros}
 use Rattle.elementary.specs.TwoLaws.{root-entry, p-below, turn-p, turn-small, turn-set, turn-grows}
-use Rattle.elementary.specs.TwoSteps.{root-falls, bits-first, bits-rest, none-left}
+use Rattle.elementary.proofs.TwoSteps.{root-falls, bits-first, bits-rest, none-left}
 use Rattle.elementary.proofs.two_bits.Statement.{statement}
 use Rattle.elementary.proofs.two_bits.Tie as tie
 

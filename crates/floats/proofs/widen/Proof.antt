@@ -6,13 +6,16 @@ use lib.Ieee as Ieee
 use lib.Ieee.{binary64, isNan}
 use lib.Ieee.Fits.{and-i, fits-widens}
 use lib.Ieee.Compare.{differs-from-itself}
-use Rattle.floats.specs.Bits.{equals-itself, zero-by-zero}
+use Rattle.floats.specs.Bits.{equals-itself}
 use borrow.Author.Needs.{needs}
 use Rattle.floats.proofs.widen.Statement.{statement}
 use Rattle.floats.proofs.widen.Tie as tie
 
+nan-requires : tie.Need-nan-requires
+nan-requires c κs = search needs
+
 returns : tie.Need-returns
-returns c = zero-by-zero binary64 ∙ sym (differs-from-itself (c .before .args .x) (subst T (sym (c .if1 .taken)) tt))
+returns c = c .nan .ensures ∙ sym (differs-from-itself (c .before .before .args .x) (subst T (sym (c .before .if1 .taken)) tt))
 
 float-to-float-result : tie.Need-float-to-float-result
 float-to-float-result c =
@@ -24,4 +27,4 @@ returns-2 : tie.Need-returns-2
 returns-2 c = search needs
 
 pub widen-spec : {M : Type 1} → statement M
-widen-spec = tie.close (tie.spec returns float-to-float-result returns-2)
+widen-spec = tie.close (tie.spec nan-requires float-to-float-result returns returns-2)

@@ -1,5 +1,6 @@
 -- `object::min_jump_dist` meets its contract. Assumes nothing.
 use Rattle.object.specs.Record.{minJumpDist}
+use Rattle.object.proofs.Radii.{max-radius, assumed-radius}
 use borrow.Author.Needs.{needs}
 use Rattle.object.proofs.min_jump_dist.Statement.{statement}
 use Rattle.object.proofs.min_jump_dist.Tie as tie
@@ -27,7 +28,7 @@ max-requires c κs = search needs
 
 returns : tie.Need-returns
 unfolding minJumpDist
-returns c = simp (c .max .ensures, c .before .min .ensures, c .before .before .widen2 .ensures, c .before .before .before .widen .ensures, c .before .before .before .before .length .ensures, c .before .before .before .before .before .sub .ensures, c .before .before .before .before .before .before .stacked-pos .ensures)
+returns c = simp (max-radius, assumed-radius, c .max .ensures, c .before .min .ensures, c .before .before .widen2 .ensures, c .before .before .before .widen .ensures, c .before .before .before .before .length .ensures, c .before .before .before .before .before .sub .ensures, c .before .before .before .before .before .before .stacked-pos .ensures)
 
 pub min-jump-dist-spec : {M : Type 1} → statement M
 min-jump-dist-spec =

@@ -2,7 +2,7 @@
 use native.Mathlib.Omega.{arith}
 use Prim.Native.Nat.{_+_, _*_, _^_}
 use borrow.Author.Needs.{needs}
-use Rattle.roots.specs.Halves.{before}
+use Rattle.roots.proofs.Halves.{before}
 use Rattle.roots.specs.Isqrt.{square-mono}
 use Rattle.roots.proofs.joined_root.Statement.{statement}
 use Rattle.roots.proofs.joined_root.Tie as tie

@@ -1,6 +1,6 @@
 -- `roots::long_root` meets its contract: `joined` of specs/Halves.antt puts the root of the upper half and the quotient together. Assumes nothing.
 use borrow.Author.Needs.{needs}
-use Rattle.roots.specs.Halves.{joined}
+use Rattle.roots.proofs.Halves.{joined}
 use native.Mathlib.Nat.{mod-lt, div-add-mod, mul-comm}
 use native.Mathlib.Omega.{arith}
 use Prim.Native.Nat.{ℕ, _<_, _+_, _*_, _/_, _%_}

@@ -1,7 +1,7 @@
 -- `roots::nearest_root` meets its contract: specs/Normal.antt has the arithmetic. Assumes nothing.
 use native.Mathlib.Omega.{arith}
 use borrow.Author.Needs.{needs}
-use Rattle.roots.specs.Normal.{zeros-some, zeros-most, room, rounded-down, rounded-up}
+use Rattle.roots.proofs.Normal.{zeros-some, zeros-most, room, rounded-down, rounded-up}
 use Rattle.roots.proofs.nearest_root.Statement.{statement}
 use Rattle.roots.proofs.nearest_root.Tie as tie
 

@@ -5,7 +5,7 @@ use native.Mathlib.Omega.{arith}
 use lib.Ieee.{binary32, hid, ones}
 use borrow.Author.Needs.{needs}
 use Rattle.roots.specs.Root.{rootOf}
-use Rattle.roots.specs.RootOf.{at-zero, at-nan, at-inf, radicand-at, root-bits-at}
+use Rattle.roots.proofs.RootBits.{at-zero, at-nan, at-inf, radicand-at, root-bits-at}
 use Rattle.roots.proofs.root32.Statement.{statement}
 use Rattle.roots.proofs.root32.Tie as tie
 
@@ -14,6 +14,9 @@ bits-of-f32-requires c κs = search needs
 
 cast-b : tie.Need-cast-b
 cast-b c = search needs
+
+nan-32-requires : tie.Need-nan-32-requires
+nan-32-requires c κs = search needs
 
 parts-requires : tie.Need-parts-requires
 parts-requires c κs = search needs
@@ -53,8 +56,8 @@ returns c =
 
 returns-2 : tie.Need-returns-2
 returns-2 c =
-    let a = c .before .before in
-    at-nan binary32 (a .before .args .x) (a .bits-of-f32 .result) (a .bits-of-f32 .ensures .1) (omega arith) (c .before .if1 .left) (c .if2 .taken)
+    let a = c .before .before .before in
+    c .nan-32 .ensures ∙ at-nan binary32 (a .before .args .x) (a .bits-of-f32 .result) (a .bits-of-f32 .ensures .1) (omega arith) (c .before .before .if1 .left) (c .before .if2 .taken)
 
 returns-3 : tie.Need-returns-3
 returns-3 c =
@@ -77,6 +80,7 @@ root32-spec =
     (tie.spec
     bits-of-f32-requires
     cast-b
+    nan-32-requires
     parts-requires
     add-nearest-root
     nearest-root-requires

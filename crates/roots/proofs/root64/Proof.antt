@@ -5,12 +5,15 @@ use native.Mathlib.Omega.{arith}
 use lib.Ieee.{binary64, hid, ones}
 use borrow.Author.Needs.{needs}
 use Rattle.roots.specs.Root.{rootOf}
-use Rattle.roots.specs.RootOf.{at-zero, at-nan, at-inf, radicand-at, root-bits-at}
+use Rattle.roots.proofs.RootBits.{at-zero, at-nan, at-inf, radicand-at, root-bits-at}
 use Rattle.roots.proofs.root64.Statement.{statement}
 use Rattle.roots.proofs.root64.Tie as tie
 
 bits-of-f64-requires : tie.Need-bits-of-f64-requires
 bits-of-f64-requires c κs = search needs
+
+nan-requires : tie.Need-nan-requires
+nan-requires c κs = search needs
 
 parts-requires : tie.Need-parts-requires
 parts-requires c κs = search needs
@@ -47,8 +50,8 @@ returns c =
 
 returns-2 : tie.Need-returns-2
 returns-2 c =
-    let a = c .before .before in
-    at-nan binary64 (a .before .args .x) (a .bits-of-f64 .result) (a .bits-of-f64 .ensures .1) (omega arith) (c .before .if1 .left) (c .if2 .taken)
+    let a = c .before .before .before in
+    c .nan .ensures ∙ at-nan binary64 (a .before .args .x) (a .bits-of-f64 .result) (a .bits-of-f64 .ensures .1) (omega arith) (c .before .before .if1 .left) (c .before .if2 .taken)
 
 returns-3 : tie.Need-returns-3
 returns-3 c =
@@ -70,6 +73,7 @@ root64-spec =
     tie.close
     (tie.spec
     bits-of-f64-requires
+    nan-requires
     parts-requires
     add-nearest-root
     nearest-root-requires

@@ -4,7 +4,7 @@ use native.Mathlib.Omega.{arith}
 use Prim.Native.Nat.{ℕ, _*_, _/_, _^_}
 use mathlib.Core.Path.{_≡_, ap, _∙_, subst}
 use borrow.Author.Needs.{needs}
-use Rattle.roots.specs.Halves.{before, long-is, short-is}
+use Rattle.roots.proofs.Halves.{before, long-is, short-is}
 use Rattle.roots.proofs.root_digits.Statement.{statement}
 use Rattle.roots.proofs.root_digits.Tie as tie
 

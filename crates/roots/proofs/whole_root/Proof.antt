@@ -1,6 +1,6 @@
 -- `roots::whole_root` meets its contract: the test of a near root; a number below 2^54 has a root below 2^27. Assumes nothing.
 use borrow.Author.Needs.{needs}
-use Rattle.roots.specs.Halves.{root-below}
+use Rattle.roots.proofs.Halves.{root-below}
 use Rattle.roots.proofs.whole_root.Statement.{statement}
 use Rattle.roots.proofs.whole_root.Tie as tie
 

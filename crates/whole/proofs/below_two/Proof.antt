@@ -2,7 +2,7 @@
 use borrow.Author.Needs.{needs}
 use lib.Dec.{T}
 use lib.Ieee.{binary64, fits}
-use Rattle.whole.specs.Rest.{two-below, two-above}
+use Rattle.whole.proofs.Rest.{two-below, two-above}
 use Rattle.whole.proofs.below_two.Statement.{statement}
 use Rattle.whole.proofs.below_two.Tie as tie
 

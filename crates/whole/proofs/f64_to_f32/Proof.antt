@@ -1,5 +1,5 @@
--- `whole::f64_to_f32` meets its contract: specs/NarrowLaws.antt has a law for each class of x. Assumes nothing.
-use Rattle.whole.specs.NarrowLaws.{narrow-finite, narrow-infinite, narrow-nan}
+-- `whole::f64_to_f32` meets its contract: proofs/NarrowRanges.antt has a law for each class of x. Assumes nothing.
+use Rattle.whole.proofs.NarrowRanges.{narrow-finite, narrow-infinite, narrow-nan}
 use mathlib.Core.Path.{_∙_}
 use native.Mathlib.Omega.{arith}
 use borrow.Author.Needs.{needs}
@@ -33,6 +33,9 @@ cast-f32-of-bits-2 c = search needs
 f32-of-bits-requires-2 : tie.Need-f32-of-bits-requires-2
 f32-of-bits-requires-2 c κs = search needs
 
+nan-32-requires : tie.Need-nan-32-requires
+nan-32-requires c κs = search needs
+
 returns : tie.Need-returns
 returns c =
     let k = c .before .before .before in
@@ -45,8 +48,8 @@ returns-2 c =
 
 returns-3 : tie.Need-returns-3
 returns-3 c =
-    let k = c .before .before in
-    narrow-nan (k .before .args .x) (k .bits-of-f64 .result) (k .bits-of-f64 .ensures .1) (omega arith) (omega arith)
+    let k = c .before .before .before in
+    c .nan-32 .ensures ∙ narrow-nan (k .before .args .x) (k .bits-of-f64 .result) (k .bits-of-f64 .ensures .1) (omega arith) (omega arith)
 
 pub f64-to-f32-spec : {M : Type 1} → statement M
 f64-to-f32-spec =
@@ -61,6 +64,7 @@ f64-to-f32-spec =
     add-f32-of-bits-2
     cast-f32-of-bits-2
     f32-of-bits-requires-2
+    nan-32-requires
     returns
     returns-2
     returns-3)

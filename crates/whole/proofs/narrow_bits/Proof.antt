@@ -1,6 +1,6 @@
 -- `whole::narrow_bits` meets its contract: where both patterns are normal by `normal-fast` of specs/NarrowFast.antt, and elsewhere by the range of the exponent. Assumes nothing.
 use borrow.Author.Needs.{needs}
-use Rattle.whole.specs.NarrowFast.{normal-fast}
+use Rattle.whole.proofs.NarrowFast.{normal-fast}
 use Rattle.whole.proofs.narrow_bits.Statement.{statement}
 use Rattle.whole.proofs.narrow_bits.Tie as tie
 

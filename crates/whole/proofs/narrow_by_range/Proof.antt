@@ -3,7 +3,8 @@ use native.Mathlib.Nat.{lt-of-lt-of-le}
 use lib.Dec.{lit<, lit≤}
 use lib.Pow.{pow-pos, pow-mono}
 use lib.Ieee.Nearest.{closest}
-use Rattle.whole.specs.NarrowLaws.{Narrowed, short, narrowed-none, narrowed-subnormal, narrowed-normal, narrowed-overflow}
+use Rattle.whole.specs.Narrow.{Narrowed}
+use Rattle.whole.proofs.NarrowRanges.{short, narrowed-none, narrowed-subnormal, narrowed-normal, narrowed-overflow}
 use Prim.Native.Nat.{ℕ, _+_, _-_, _*_, _^_, _≤_, _<_}
 use mathlib.Core.Path.{sym, ap, _∙_, subst}
 use native.Mathlib.Omega.{arith}

@@ -1,7 +1,7 @@
 -- `whole::nearest_quotient` meets its contract: one law for each answer of the comparison. Assumes nothing.
 use native.Mathlib.Nat.{mod-lt, div-le-self}
 use native.Mathlib.Numerals.{add-one}
-use Rattle.whole.specs.NarrowLaws.{closest-down, closest-tie, closest-up}
+use Rattle.whole.proofs.NarrowRanges.{closest-down, closest-tie, closest-up}
 use Prim.Native.Nat.{_*_, _/_, _%_, _<_}
 use mathlib.Core.Path.{sym, _∙_}
 use native.Mathlib.Omega.{arith}

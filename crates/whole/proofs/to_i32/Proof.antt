@@ -1,5 +1,5 @@
--- `whole::to_i32` meets its contract: specs/ToInt.antt has a law for each range of x. Assumes nothing.
-use Rattle.whole.specs.ToInt.{Within, at-nan, at-low, at-high, within, cast-fits, cast-is}
+-- `whole::to_i32` meets its contract: proofs/ToI32.antt has a law for each range of x. Assumes nothing.
+use Rattle.whole.proofs.ToI32.{Within, at-nan, at-low, at-high, within, cast-fits, cast-is}
 use Rattle.whole.proofs.to_i32.Statement.{statement}
 use Rattle.whole.proofs.to_i32.Tie as tie
 

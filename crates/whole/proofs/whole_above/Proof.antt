@@ -1,5 +1,5 @@
 -- `whole::whole_above` meets its contract: `above-law` of specs/Add52.antt. Assumes nothing.
-use Rattle.whole.specs.Add52.{above-law}
+use Rattle.whole.proofs.Add52.{above-law}
 use Rattle.whole.proofs.whole_above.Statement.{statement}
 use Rattle.whole.proofs.whole_above.Tie as tie
 

@@ -1,5 +1,5 @@
 -- `whole::whole_below` meets its contract: `below-law` of specs/Add52.antt. Assumes nothing.
-use Rattle.whole.specs.Add52.{below-law}
+use Rattle.whole.proofs.Add52.{below-law}
 use Rattle.whole.proofs.whole_below.Statement.{statement}
 use Rattle.whole.proofs.whole_below.Tie as tie
 

@@ -1,6 +1,7 @@
 -- `object::cursor::required_movement` meets its contract. Assumes nothing.
 use borrow.Author.Tests.{eq-eqb, ne-eqb}
 use Rattle.object.specs.Cursor.{requiredOf}
+use Rattle.object.proofs.Radii.{assumed-radius}
 use borrow.Author.Needs.{needs}
 use Rattle.object.proofs.cursor.required_movement.Statement.{statement}
 use Rattle.object.proofs.cursor.required_movement.Tie as tie
@@ -10,7 +11,7 @@ widen-requires c κs = search needs
 
 returns : tie.Need-returns
 unfolding requiredOf
-returns c = simp (c .widen .ensures, c .before .if1 .taken)
+returns c = simp (assumed-radius, c .widen .ensures, c .before .if1 .taken)
 
 int-to-float-result : tie.Need-int-to-float-result
 int-to-float-result c = search needs
@@ -24,7 +25,7 @@ widen-requires-2 c κs = search needs
 
 returns-3 : tie.Need-returns-3
 unfolding requiredOf
-returns-3 c = simp (c .widen2 .ensures, ne-eqb _ _ (c .before .if2 .left), c .before .before .if1 .left)
+returns-3 c = simp (assumed-radius, c .widen2 .ensures, ne-eqb _ _ (c .before .if2 .left), c .before .before .if1 .left)
 
 pub required-movement-spec : {M : Type 1} → statement M
 required-movement-spec =

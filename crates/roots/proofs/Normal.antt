@@ -10,7 +10,7 @@ use lib.Count.{leadingZeros, leading-top}
 use Rattle.roots.specs.Root.{square}
 use Rattle.roots.specs.Isqrt.{square-suc, lt-of-square}
 use Rattle.floats.specs.Order.{pow-lt-back}
-use Rattle.roots.specs.RootLaws.{drop-is, kept-down, kept-up}
+use Rattle.roots.proofs.RootLaws.{drop-is, kept-down, kept-up}
 use Rattle.roots.specs.Digits.{RootRest, Radicand, NearestRoot}
 
 four-is : (d : ℕ) → 4 ^ d ≡ 2 ^ (d + d)

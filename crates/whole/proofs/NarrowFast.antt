@@ -9,7 +9,8 @@ use native.Mathlib.Omega.{arith}
 use lib.Ieee.Nearest.{closest}
 use borrow.Author.Tests.{le-ltb}
 use Rattle.floats.specs.Value.{lt-or-ge}
-use Rattle.whole.specs.NarrowLaws.{Narrowed, closest-down, closest-tie, closest-up, narrowed-normal}
+use Rattle.whole.specs.Narrow.{Narrowed}
+use Rattle.whole.proofs.NarrowRanges.{closest-down, closest-tie, closest-up, narrowed-normal}
 
 abbrev unit : ℕ
 unit = 0x2000_0000
