@@ -16,7 +16,7 @@ fn run(
 ) {
     let mut left = MOST;
     while 0 < left {
-        let n = packs::read_chart(chart);
+        let n = text::read_chart(chart);
         if n <= chart.len() {
             let end = listing::put_chart(out, &chart[0..n], records, values, a, b, c, d);
             text::show(out, end);
