@@ -4,8 +4,8 @@
     corpus.py TOOLS BUILD DIR     writes DIR/stdin and DIR/stdout, and prints what is in them
 
 TOOLS is the folder of the oracle's scripts (mkcharts.py), BUILD that of its programs (oracle, oracle-cover). stdin has for each chart its length
-(u32, little-endian) and its bytes, first the charts that open, then the damaged ones; stdout has the oracle's lines for each, in the same order.
-No chart is longer than the lister's 32,768 bytes. The same scripts and programs make the same files.
+(u32, little-endian) and its bytes, first the charts that open, then the damaged ones, then those beyond the lister's 32,768 bytes; stdout has the
+oracle's lines for each but the last, which get 7, in the same order. The same scripts and programs make the same files.
 
 The charts that open are: the examples, those of tools/edges (values just beside the bounds of a rule), charts at the ends of the lister's range,
 and of CANDIDATES charts of each style as many as it takes for every branch of the oracle to be met by WANTED charts (or by all that meet it), and
@@ -26,6 +26,7 @@ import compare
 
 SEED, CANDIDATES, WANTED, LEAST = 8, 40, 4, 7
 LIMIT = 32_768
+TOO_LONG = "refused 7 0\n"
 ROOT = os.path.dirname(os.path.dirname(os.path.abspath(__file__)))
 SIZES = (0, 1, 2, 3, 4, 5, 8, 16, 32, 33, 34, 35, 36, 64, 100, 200, 400, 582, 583)
 
@@ -91,6 +92,11 @@ def damaged(mk):
     for name, b in small.items():
         out[f"damaged {name}"] = compare.damage(random.Random(f"damage/{SEED}/{name}"), b)
     return {name: b for name, b in out.items() if chart.explain(b)}
+
+
+def beyond(mk):
+    """Charts longer than the lister takes, which it refuses before any check: zeros, and 584 circles that would open."""
+    return {"zeros": bytes(LIMIT + 1), "size 584": mk.sized(584, SEED).pack()}
 
 
 def flipped(b, bit):
@@ -171,10 +177,11 @@ def main():
     if wrong or max(map(len, charts)) > LIMIT:
         sys.exit(f"not as expected: {wrong}")
     os.makedirs(out, exist_ok=True)
+    longer = beyond(mk).values()
     with open(os.path.join(out, "stdin"), "wb") as file:
-        file.write(b"".join(struct.pack("<I", len(b)) + b for b in charts))
+        file.write(b"".join(struct.pack("<I", len(b)) + b for b in (*charts, *longer)))
     with open(os.path.join(out, "stdout"), "w") as file:
-        file.write("".join(lines))
+        file.write("".join((*lines, *(TOO_LONG for _ in longer))))
     report(good, bad, lines, counters)
 
 

@@ -19,7 +19,7 @@ fn answer(out: &mut [u8], chart: &[u8]) {
 fn run(out: &mut [u8], chart: &mut [u8]) {
     let mut left = MOST;
     while 0 < left {
-        let n = packs::read_chart(chart);
+        let n = text::read_chart(chart);
         if n <= chart.len() {
             answer(out, &chart[0..n]);
             left -= 1;

@@ -17,7 +17,7 @@ fn answer(out: &mut [u8], chart: &[u8], bytes: &mut [u8], t: &mut [f64], values:
         Verdict::Accepted => {
             let lay = opening::layout_of(chart);
             let set = opening::settings_at(chart, 32);
-            packs::read_numbers(16 * lay.n, bytes, t);
+            text::read_numbers(16 * lay.n, bytes, t);
             evaluators::fill_values(values, t, chart, lay, set, 1, lay.n);
             lines::show_values(out, values, lay.n);
         }
@@ -30,7 +30,7 @@ fn run(out: &mut [u8], chart: &mut [u8], bytes: &mut [u8], t: &mut [f64], values
 {
     let mut left = MOST;
     while 0 < left {
-        let n = packs::read_chart(chart);
+        let n = text::read_chart(chart);
         if n <= chart.len() {
             answer(out, &chart[0..n], bytes, t, values);
             left -= 1;

@@ -1,21 +1,32 @@
 // Lines of the programs' answers. As in `text`, each function appends at an offset of a lent buffer and returns the offset behind what it wrote.
+ghost use Rattle.text.specs.Buffer.{Puts};
+ghost use Rattle.evaluators.specs.Values.{rowOf};
+ghost use Rattle.opening.specs.Verdict.{numberOf, placeOf};
+ghost use Rattle.lines.specs.Lines.{numberText, narrowText, flagText, refusalText, countText, placeText, skillsText, totalsText};
+ghost use Rattle.lines.specs.Lines.{jumpText, travelText, recordText};
 use evaluators::Values;
 use object::OsuDifficultyObject;
 use opening::Refusal;
 use skills::Skills;
 
 // A space and the bits of a number.
-pub fn put_f64(out: &mut [u8], at: usize, x: f64) -> usize {
+pub fn put_f64(out: &mut [u8], at: usize, x: f64) -> usize
+    ensures { λ r. ⌜ Puts (numberText x) (now (out .entry)) at (now (out .exit)) r ⌝ }
+{
     let end = text::put(out, at, b' ');
     text::put_f64(out, end, x)
 }
 
-fn put_f32(out: &mut [u8], at: usize, x: f32) -> usize {
+fn put_f32(out: &mut [u8], at: usize, x: f32) -> usize
+    ensures { λ r. ⌜ Puts (narrowText x) (now (out .entry)) at (now (out .exit)) r ⌝ }
+{
     let end = text::put(out, at, b' ');
     text::put_f32(out, end, x)
 }
 
-fn put_flag(out: &mut [u8], at: usize, flag: bool) -> usize {
+fn put_flag(out: &mut [u8], at: usize, flag: bool) -> usize
+    ensures { λ r. ⌜ Puts (flagText flag) (now (out .entry)) at (now (out .exit)) r ⌝ }
+{
     let end = text::put(out, at, b' ');
     if flag {
         return text::put(out, end, b'1');
@@ -24,7 +35,9 @@ fn put_flag(out: &mut [u8], at: usize, flag: bool) -> usize {
 }
 
 // The word refused, the number of the condition and the place.
-pub fn put_refusal(out: &mut [u8], at: usize, r: Refusal) -> usize {
+pub fn put_refusal(out: &mut [u8], at: usize, r: Refusal) -> usize
+    ensures { λ end. ⌜ Puts (refusalText (numberOf r) (placeOf r)) (now (out .entry)) at (now (out .exit)) end ⌝ }
+{
     let word = text::put_all(out, at, b"refused ");
     let number = text::put_decimal(out, word, r.number() as u64);
     let space = text::put(out, number, b' ');
@@ -33,14 +46,18 @@ pub fn put_refusal(out: &mut [u8], at: usize, r: Refusal) -> usize {
 }
 
 // The word objects and how many there are.
-pub fn put_count(out: &mut [u8], at: usize, n: usize) -> usize {
+pub fn put_count(out: &mut [u8], at: usize, n: usize) -> usize
+    ensures { λ r. ⌜ Puts (countText n) (now (out .entry)) at (now (out .exit)) r ⌝ }
+{
     let word = text::put_all(out, at, b"objects ");
     let count = text::put_decimal(out, word, n as u64);
     text::put(out, count, b'\n')
 }
 
 // A place and its five values.
-pub fn put_values(out: &mut [u8], at: usize, j: usize, v: Values) -> usize {
+pub fn put_values(out: &mut [u8], at: usize, j: usize, v: Values) -> usize
+    ensures { λ r. ⌜ Puts (placeText j (rowOf v)) (now (out .entry)) at (now (out .exit)) r ⌝ }
+{
     let place = text::put_decimal(out, at, j as u64);
     let aim = put_f64(out, place, v.aim);
     let aim_no_sliders = put_f64(out, aim, v.aim_no_sliders);
@@ -51,7 +68,9 @@ pub fn put_values(out: &mut [u8], at: usize, j: usize, v: Values) -> usize {
 }
 
 // A number for each skill, and the line's end.
-pub fn put_skills(out: &mut [u8], at: usize, t: Skills) -> usize {
+pub fn put_skills(out: &mut [u8], at: usize, t: Skills) -> usize
+    ensures { λ r. ⌜ Puts (skillsText t) (now (out .entry)) at (now (out .exit)) r ⌝ }
+{
     let aim = put_f64(out, at, t.aim);
     let aim_no_sliders = put_f64(out, aim, t.aim_no_sliders);
     let speed = put_f64(out, aim_no_sliders, t.speed);
@@ -60,13 +79,17 @@ pub fn put_skills(out: &mut [u8], at: usize, t: Skills) -> usize {
 }
 
 // The word totals and the four of them.
-pub fn put_totals(out: &mut [u8], at: usize, t: Skills) -> usize {
+pub fn put_totals(out: &mut [u8], at: usize, t: Skills) -> usize
+    ensures { λ r. ⌜ Puts (totalsText t) (now (out .entry)) at (now (out .exit)) r ⌝ }
+{
     let word = text::put_all(out, at, b"totals");
     put_skills(out, word, t)
 }
 
 // Times and distances from the object before.
-fn put_jump(out: &mut [u8], at: usize, r: OsuDifficultyObject) -> usize {
+fn put_jump(out: &mut [u8], at: usize, r: OsuDifficultyObject) -> usize
+    ensures { λ end. ⌜ Puts (jumpText r) (now (out .entry)) at (now (out .exit)) end ⌝ }
+{
     let start = put_f64(out, at, r.start_time);
     let delta = put_f64(out, start, r.delta_time);
     let adjusted = put_f64(out, delta, r.adjusted_delta_time);
@@ -76,7 +99,9 @@ fn put_jump(out: &mut [u8], at: usize, r: OsuDifficultyObject) -> usize {
 }
 
 // What a slider has.
-fn put_travel(out: &mut [u8], at: usize, r: OsuDifficultyObject) -> usize {
+fn put_travel(out: &mut [u8], at: usize, r: OsuDifficultyObject) -> usize
+    ensures { λ end. ⌜ Puts (travelText r) (now (out .entry)) at (now (out .exit)) end ⌝ }
+{
     let distance = put_f64(out, at, r.travel_dist);
     let time = put_f64(out, distance, r.travel_time);
     let flag = put_flag(out, time, r.has_lazy_end);
@@ -87,7 +112,9 @@ fn put_travel(out: &mut [u8], at: usize, r: OsuDifficultyObject) -> usize {
 }
 
 // A place and the sixteen fields of its record.
-pub fn put_record(out: &mut [u8], at: usize, j: usize, r: OsuDifficultyObject) -> usize {
+pub fn put_record(out: &mut [u8], at: usize, j: usize, r: OsuDifficultyObject) -> usize
+    ensures { λ end. ⌜ Puts (recordText j r) (now (out .entry)) at (now (out .exit)) end ⌝ }
+{
     let place = text::put_decimal(out, at, j as u64);
     let jump = put_jump(out, place, r);
     let travel = put_travel(out, jump, r);

@@ -1,30 +1,45 @@
 // The lines that list a chart: the number of objects, the values of each place and the totals, or the refusal.
+ghost use Prim.Native.Nat.{_≤_, _<_, _-_};
+ghost use lib.ListN.{length};
+ghost use Rattle.text.specs.Buffer.{Puts};
+ghost use Rattle.tables.specs.Parts.{row};
+ghost use Rattle.opening.specs.Header.{layoutOf, settingsOf};
+ghost use Rattle.lines.specs.Lines.{placeText, totalsText};
+ghost use Rattle.listing.specs.List.{limit, placesText, afreshText, chartText, listText, Filled, Room};
+ghost use Rattle.calls.specs.Calls.{totalsFrom, totalsOf};
+ghost use Rattle.editor.specs.Rules.{rules};
 use editor::TotalsAnswer;
 use editor::ValuesAnswer;
+use opening::Refusal;
 use opening::Verdict;
 
 // The longest chart that is listed, in bytes.
-pub const LIMIT: usize = 32768;
+const LIMIT: usize = 32768;
 
-// The number of objects of a chart that has a header.
-fn objects(chart: &[u8]) -> usize {
-    if chart.len() < 80 {
-        return 0;
-    }
-    floats::count_at(chart, 0)
-}
+// The numbers in each table, enough for the 583 objects that a chart of so many bytes can have.
+const RECORDS: usize = 9344;
 
-// The line of a place, nothing where it is not read.
-fn put_place(out: &mut [u8], at: usize, chart: &[u8], values: &[f64], j: usize) -> usize {
+const VALUES: usize = 2920;
+
+// The numbers that totals need for each skill.
+const SCRATCH: usize = 8192;
+
+// The line of a place.
+fn put_place(out: &mut [u8], at: usize, chart: &[u8], values: &[f64], j: usize) -> usize
+    requires { ⌜ Filled (now chart) (now values) × (1 ≤ j) × (j < layoutOf (now chart) .n) ⌝ }
+    ensures { λ r. ⌜ Puts (placeText j (row 5 (now (values .entry)) j)) (now (out .entry)) at (now (out .exit)) r ⌝ }
+{
     match editor::read_values(chart, values, j) {
-        ValuesAnswer::Refused(_) => at,
+        ValuesAnswer::Refused(r) => lines::put_refusal(out, at, r),
         ValuesAnswer::Values(v) => lines::put_values(out, at, j, v),
     }
 }
 
 // The lines of all places from 1 on.
-fn put_places(out: &mut [u8], at: usize, chart: &[u8], values: &[f64]) -> usize {
-    let n = objects(chart);
+fn put_places(out: &mut [u8], at: usize, chart: &[u8], values: &[f64], n: usize) -> usize
+    requires { ⌜ Filled (now chart) (now values) × (n ≤ layoutOf (now chart) .n) ⌝ }
+    ensures { λ r. ⌜ Puts (placesText (row 5 (now (values .entry))) (n - 1)) (now (out .entry)) at (now (out .exit)) r ⌝ }
+{
     let mut end = at;
     let mut j = 1;
     while j < n {
@@ -44,15 +59,44 @@ fn put_totals(
     b: &mut [f64],
     c: &mut [f64],
     d: &mut [f64],
-) -> usize {
+) -> usize
+    requires { ⌜ Filled (now chart) (now values) × Room 9344 2920 (length (now a)) (length (now b)) (length (now c)) (length (now d)) ⌝ }
+    ensures { λ r. ⌜
+        Puts
+        (totalsText (totalsFrom rules (settingsOf (now (chart .entry))) (now (chart .entry)) (now (values .entry))))
+        (now (out .entry))
+        at
+        (now (out .exit))
+        r
+        ⌝ }
+{
     match editor::totals(chart, values, a, b, c, d) {
         TotalsAnswer::Refused(r) => lines::put_refusal(out, at, r),
         TotalsAnswer::Totals(t) => lines::put_totals(out, at, t),
     }
 }
 
-// All lines of a chart, written to the buffer; how many bytes they are.
-pub fn put_chart(
+// The lines of a chart that is opened.
+fn put_opened(
+    out: &mut [u8],
+    chart: &[u8],
+    values: &[f64],
+    a: &mut [f64],
+    b: &mut [f64],
+    c: &mut [f64],
+    d: &mut [f64],
+) -> usize
+    requires { ⌜ Filled (now chart) (now values) × Room 9344 2920 (length (now a)) (length (now b)) (length (now c)) (length (now d)) ⌝ }
+    ensures { λ r. ⌜ Puts (afreshText (now (chart .entry))) (now (out .entry)) 0 (now (out .exit)) r ⌝ }
+{
+    let n = opening::layout_of(chart).n;
+    let count = lines::put_count(out, 0, n);
+    let places = put_places(out, count, chart, values, n);
+    put_totals(out, places, chart, values, a, b, c, d)
+}
+
+// The lines of a chart within the limit.
+fn put_within(
     out: &mut [u8],
     chart: &[u8],
     records: &mut [f64],
@@ -61,13 +105,46 @@ pub fn put_chart(
     b: &mut [f64],
     c: &mut [f64],
     d: &mut [f64],
-) -> usize {
+) -> usize
+    requires { ⌜ length (now chart) ≤ limit ⌝ }
+    requires { ⌜
+        Room
+        (length (now records))
+        (length (now values))
+        (length (now a))
+        (length (now b))
+        (length (now c))
+        (length (now d))
+        ⌝ }
+    ensures { λ r. ⌜ Puts (chartText (now (chart .entry))) (now (out .entry)) 0 (now (out .exit)) r ⌝ }
+{
     match editor::open(chart, records, values) {
         Verdict::Refused(r) => lines::put_refusal(out, 0, r),
-        Verdict::Accepted => {
-            let count = lines::put_count(out, 0, objects(chart));
-            let places = put_places(out, count, chart, values);
-            put_totals(out, places, chart, values, a, b, c, d)
-        }
+        Verdict::Accepted => put_opened(out, chart, values, a, b, c, d),
     }
+}
+
+// All lines of a chart, put at the start of the buffer; how many bytes they are. More bytes than the limit are refused before any check.
+pub fn put_chart(out: &mut [u8], chart: &[u8]) -> usize
+    ensures { λ r. ⌜ Puts (listText (now (chart .entry))) (now (out .entry)) 0 (now (out .exit)) r ⌝ }
+{
+    if LIMIT < chart.len() {
+        return lines::put_refusal(out, 0, Refusal::Table);
+    }
+    let mut records = [0.0f64; RECORDS];
+    let mut values = [0.0f64; VALUES];
+    let mut a = [0.0f64; SCRATCH];
+    let mut b = [0.0f64; SCRATCH];
+    let mut c = [0.0f64; SCRATCH];
+    let mut d = [0.0f64; SCRATCH];
+    put_within(
+        out,
+        chart,
+        &mut records[..],
+        &mut values[..],
+        &mut a[..],
+        &mut b[..],
+        &mut c[..],
+        &mut d[..],
+    )
 }

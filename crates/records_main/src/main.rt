@@ -42,7 +42,7 @@ fn run(out: &mut [u8], chart: &mut [u8], t: &mut [f64])
 {
     let mut left = MOST;
     while 0 < left {
-        let n = packs::read_chart(chart);
+        let n = text::read_chart(chart);
         if n <= chart.len() {
             answer(out, &chart[0..n], t);
             left -= 1;

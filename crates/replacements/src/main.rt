@@ -16,9 +16,9 @@ fn put_verdict(out: &mut [u8], v: Verdict) -> usize {
 
 // One call.
 fn call(out: &mut [u8], chart: &mut [u8], object: &mut [u8]) {
-    let place = packs::next_long() as usize;
-    let entries = packs::next_word();
-    let n = packs::read_chart(object);
+    let place = text::next_long() as usize;
+    let entries = text::next_word();
+    let n = text::read_chart(object);
     if object.len() < n {
         return;
     }
@@ -55,7 +55,7 @@ fn show_checksum(out: &mut [u8], chart: &[u8]) {
 
 // All calls on a chart.
 fn calls(out: &mut [u8], chart: &mut [u8], object: &mut [u8]) {
-    let mut left = packs::next_length(MOST);
+    let mut left = text::next_length(MOST);
     while 0 < left {
         call(out, chart, object);
         left -= 1;
@@ -67,7 +67,7 @@ fn calls(out: &mut [u8], chart: &mut [u8], object: &mut [u8]) {
 fn run(out: &mut [u8], chart: &mut [u8], object: &mut [u8]) {
     let mut left = MOST;
     while 0 < left {
-        let n = packs::read_chart(chart);
+        let n = text::read_chart(chart);
         if n <= chart.len() {
             calls(out, &mut chart[0..n], object);
             left -= 1;

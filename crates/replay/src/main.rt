@@ -83,8 +83,8 @@ fn put_verdict(
 }
 
 fn open(out: &mut [u8], at: usize, chart: &[u8], records: &mut [f64], values: &mut [f64]) -> usize {
-    let r = packs::next_length(records.len());
-    let v = packs::next_length(values.len());
+    let r = text::next_length(records.len());
+    let v = text::next_length(values.len());
     let before = hash_all(chart, records, values);
     let verdict = editor::open(chart, &mut records[0..r], &mut values[0..v]);
     let after = hash_all(chart, records, values);
@@ -100,8 +100,8 @@ fn replace(
     records: &mut [f64],
     values: &mut [f64],
 ) -> usize {
-    let r = packs::next_length(records.len());
-    let v = packs::next_length(values.len());
+    let r = text::next_length(records.len());
+    let v = text::next_length(values.len());
     let before = hash_all(chart, records, values);
     let verdict = editor::replace(chart, place, object, &mut records[0..r], &mut values[0..v]);
     let after = hash_all(chart, records, values);
@@ -117,8 +117,8 @@ fn read_and_replace(
     records: &mut [f64],
     values: &mut [f64],
 ) -> usize {
-    let place = packs::next_long() as usize;
-    let n = packs::read_chart(object);
+    let place = text::next_long() as usize;
+    let n = text::read_chart(object);
     if object.len() < n {
         return at;
     }
@@ -126,8 +126,8 @@ fn read_and_replace(
 }
 
 fn record(out: &mut [u8], at: usize, chart: &[u8], records: &[f64]) -> usize {
-    let place = packs::next_long() as usize;
-    let r = packs::next_length(records.len());
+    let place = text::next_long() as usize;
+    let r = text::next_length(records.len());
     match editor::read_record(chart, &records[0..r], place) {
         RecordAnswer::Refused(x) => lines::put_refusal(out, at, x),
         RecordAnswer::Record(x) => {
@@ -138,8 +138,8 @@ fn record(out: &mut [u8], at: usize, chart: &[u8], records: &[f64]) -> usize {
 }
 
 fn value(out: &mut [u8], at: usize, chart: &[u8], values: &[f64]) -> usize {
-    let place = packs::next_long() as usize;
-    let v = packs::next_length(values.len());
+    let place = text::next_long() as usize;
+    let v = text::next_length(values.len());
     match editor::read_values(chart, &values[0..v], place) {
         ValuesAnswer::Refused(x) => lines::put_refusal(out, at, x),
         ValuesAnswer::Values(x) => {
@@ -226,11 +226,11 @@ fn read_and_total(
     c: &mut [f64],
     d: &mut [f64],
 ) -> usize {
-    let v = packs::next_length(values.len());
-    let m = packs::next_length(a.len());
-    let n = packs::next_length(b.len());
-    let o = packs::next_length(c.len());
-    let p = packs::next_length(d.len());
+    let v = text::next_length(values.len());
+    let m = text::next_length(a.len());
+    let n = text::next_length(b.len());
+    let o = text::next_length(c.len());
+    let p = text::next_length(d.len());
     totals(
         out,
         at,
@@ -245,8 +245,8 @@ fn read_and_total(
 
 // Another hand writes to the chart.
 fn poke(out: &mut [u8], at: usize, chart: &mut [u8], bytes: &mut [u8]) -> usize {
-    let offset = packs::next_word();
-    let n = packs::read_chart(bytes);
+    let offset = text::next_word();
+    let n = text::read_chart(bytes);
     if bytes.len() < n {
         return at;
     }
@@ -299,7 +299,7 @@ fn call(
     c: &mut [f64],
     d: &mut [f64],
 ) -> usize {
-    let kind = packs::next_word();
+    let kind = text::next_word();
     match kind {
         0 => open(out, at, chart, records, values),
         1 => read_and_replace(out, at, chart, object, records, values),
@@ -320,7 +320,7 @@ fn calls(
     c: &mut [f64],
     d: &mut [f64],
 ) -> usize {
-    let mut left = packs::next_length(MOST);
+    let mut left = text::next_length(MOST);
     let mut end = 0;
     while 0 < left {
         end = text::show_if_full(out, end);
@@ -388,7 +388,7 @@ fn objects(chart: &[u8]) -> usize
 
 // Fills both tables with the pattern that comes first.
 fn prepare(object: &mut [u8], pattern: &mut [f64], records: &mut [f64], values: &mut [f64]) {
-    packs::read_numbers(80, object, pattern);
+    text::read_numbers(80, object, pattern);
     fill(records, pattern);
     fill(values, pattern);
 }
@@ -440,7 +440,7 @@ fn run(
 ) {
     let mut left = MOST;
     while 0 < left {
-        let n = packs::read_chart(chart);
+        let n = text::read_chart(chart);
         if n <= chart.len() {
             script(
                 out,

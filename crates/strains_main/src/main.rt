@@ -176,7 +176,7 @@ fn run(
 {
     let mut left = MOST;
     while 0 < left {
-        let n = packs::read_chart(chart);
+        let n = text::read_chart(chart);
         if n <= chart.len() {
             answer(out, &chart[0..n], t, values, a, b, c, d);
             left -= 1;

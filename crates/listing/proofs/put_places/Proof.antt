@@ -1,25 +1,27 @@
--- `listing::put_places` meets its contract: the buffer keeps its length. Assumes nothing.
+-- `listing::put_places` meets its contract: before place j the lines of the places from 1 are put. Assumes nothing.
 use borrow.Author.Needs.{needs}
-use Prim.Native.Nat.{_-_}
-use mathlib.Core.Path.{_≡_}
-use lib.ListN.{length}
+use Prim.Native.Nat.{_-_, _≤_, max}
+use native.Mathlib.Omega.{arith}
+use mathlib.Core.Path.{_≡_, ap}
+use Rattle.text.specs.Buffer.{Puts, none, same-text, length-kept}
+use Rattle.tables.specs.Parts.{row}
+use Rattle.listing.specs.List.{placesText}
+use Rattle.listing.proofs.Room.{place-turn}
 use Rattle.listing.proofs.put_places.Statement.{statement}
 use Rattle.listing.proofs.put_places.Tie as tie
 
 abbrev Inv-loop : tie.InvT-loop
-Inv-loop out₀ at chart values n end₀ j₀ out end j = length out ≡ length out₀
+Inv-loop out₀ at chart values n end₀ j₀ out end j = (1 ≤ j) × (j ≤ max 1 n) × Puts (placesText (row 5 values) (j - 1)) out₀ at out end
 
 abbrev μ-loop : tie.MeasureT-loop
 μ-loop out₀ at chart values n end₀ j₀ out end j = n - j
 
-objects-requires : tie.Need-objects-requires Inv-loop μ-loop
-objects-requires c κs = search needs
-
 loop-holds : tie.Need-loop-holds Inv-loop μ-loop
-loop-holds c = search needs
+unfolding placesText
+loop-holds c = (search needs, search needs, none _ _)
 
 put-place-requires : tie.Need-put-place-requires Inv-loop μ-loop
-put-place-requires c κs = search needs
+put-place-requires c κs = (c .before .before .before .before .before .before .pre .0, c .before .before .loop .inv .0, omega arith)
 
 add-j : tie.Need-add-j Inv-loop μ-loop
 add-j c = search needs
@@ -28,13 +30,15 @@ loop-less : tie.Need-loop-less Inv-loop μ-loop
 loop-less c = search needs
 
 loop-again : tie.Need-loop-again Inv-loop μ-loop
-loop-again c = search needs
+loop-again c = (search needs, search needs, place-turn _ _ (c .before .before .before .before .before .loop .inv .0) (c .before .before .before .before .before .loop .inv .2) (c .before .before .put-place .ensures))
 
 same-length : tie.Need-same-length Inv-loop μ-loop
-same-length c = search needs
+same-length c = length-kept (c .before .loop .inv .2)
 
 returns : tie.Need-returns Inv-loop μ-loop
-returns c = search needs
+returns c =
+    let e : c .before .loop .j - 1 ≡ c .before .before .before .before .before .args .n - 1 = omega arith in
+    same-text (ap (placesText (row 5 (c .before .before .before .before .before .args .values .now))) e) (c .before .loop .inv .2)
 
 pub put-places-spec : {M : Type 1} → statement M
 put-places-spec =
@@ -42,7 +46,6 @@ put-places-spec =
     (tie.spec
     Inv-loop
     μ-loop
-    objects-requires
     loop-holds
     put-place-requires
     add-j

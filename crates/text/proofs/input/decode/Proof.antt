@@ -1,10 +1,10 @@
--- `packs::decode` meets its contract. Assumes nothing.
+-- `text::input::decode` meets its contract. Assumes nothing.
 use borrow.Author.Needs.{needs}
 use Prim.Native.Nat.{_≤_, _-_}
 use mathlib.Core.Path.{_≡_}
 use lib.ListN.{length}
-use Rattle.packs.proofs.decode.Statement.{statement}
-use Rattle.packs.proofs.decode.Tie as tie
+use Rattle.text.proofs.input.decode.Statement.{statement}
+use Rattle.text.proofs.input.decode.Tie as tie
 
 abbrev Inv-loop : tie.InvT-loop
 Inv-loop bytes n table₀ i₀ table i = (i ≤ n) × (length table ≡ length table₀)
