@@ -66,7 +66,7 @@ uint64_t difficulty_replace(uint8_t *chart, size_t chart_length, size_t place,
                             double *values, size_t values_length);
 
 /* Writes the record of a place (1 to N - 1) to the first 16 numbers of out.
- * Conditions 1, 7, 8; 7 where records has fewer than N entries, or out fewer than 16 numbers. In this order:
+ * Conditions 1, 7, 8; 7 where out has fewer than 16 numbers, whatever N, or records fewer than N entries. In this order:
  *   0 start time, 1 delta time, 2 adjusted delta time, 3 lazy jump distance, 4 minimum jump distance, 5 minimum jump time,
  *   6 travel distance, 7 travel time, 8 and 9 lazy end x and y, 10 lazy travel distance, 11 lazy travel time, 12 angle,
  *   13 small circle bonus, 14 whether there is a lazy end (1 or 0), 15 whether there is an angle (1 or 0). */
@@ -75,7 +75,7 @@ uint64_t difficulty_read_record(const uint8_t *chart, size_t chart_length,
                                 double *out, size_t out_length);
 
 /* Writes the values of a place (1 to N - 1) to the first 5 numbers of out: aim, aim without sliders, speed, rhythm, flashlight.
- * Conditions 1, 7, 8; 7 where values has fewer than N entries, or out fewer than 5 numbers. */
+ * Conditions 1, 7, 8; 7 where out has fewer than 5 numbers, whatever N, or values fewer than N entries. */
 uint64_t difficulty_read_values(const uint8_t *chart, size_t chart_length,
                                 const double *values, size_t values_length, size_t place,
                                 double *out, size_t out_length);

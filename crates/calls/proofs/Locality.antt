@@ -25,7 +25,7 @@ use Rattle.skills.specs.Strains.{strains}
 use Rattle.skills.specs.Chart.{startAt, deltaAt}
 use Rattle.skills.proofs.Local.{strains-local, total-local}
 use Rattle.calls.specs.Tables.{recordWidth, valueWidth}
-use Rattle.calls.specs.Afresh.{count, object, freshRecord, freshRow, freshValues, freshStrains, valuesFrom, strainsFrom, Figure, totals, totalsAre, figureOf, freshFigure, figureFrom}
+use Rattle.calls.specs.Afresh.{count, object, freshRecord, freshRow, freshValues, freshStrains, valuesFrom, strainsFrom, Figure, totals, totalsAre, totalsOf, figureOf, freshFigure, figureFrom}
 use Rattle.calls.specs.Calls.{State, state, openRecords, openValues, openStart, openMade, editRecords, editValues, recordsStart, recordsMade, valuesStart, valuesMade}
 use Rattle.calls.specs.Statement.{Fresh, Outside, FrameAfresh}
 use Rattle.calls.proofs.Replacing.{count-same, settings-same, object-same}
@@ -113,13 +113,17 @@ strain-from s st j q f =
     strains-local (deltaAt (st .chart) (layoutOf (st .chart)) (s .«clock_rate»)) (deltaAt (st .chart) (layoutOf (st .chart)) (s .«clock_rate»))
     (row valueWidth (st .values)) (freshValues s (st .chart)) j (λ i x y. refl) (λ i x y. f .values i x (omega arith))
 
+pub totals-local : (s : Settings) (b : List ℕ) (vs vs' : ℕ → List Float) → ((i : ℕ) → 1 ≤ i → i < count b → vs i ≡ vs' i) → totalsOf s b vs ≡ totalsOf s b vs'
+unfolding totalsOf
+totals-local s b vs vs' h =
+    let d = deltaAt b (layoutOf b) (s .«clock_rate») in
+    let t = startAt b (layoutOf b) (s .«clock_rate») in
+    total-local d d vs vs' t t (count b) (λ i x. refl) (λ i x y. refl) h
+
 -- a figure sees the values of places 1 to N - 1: each kind of figure adds one case here
 pub figure-local : (f : Figure) (s : Settings) (b : List ℕ) (vs vs' : ℕ → List Float) → ((i : ℕ) → 1 ≤ i → i < count b → vs i ≡ vs' i) → figureOf f s b vs ≡ figureOf f s b vs'
 unfolding figureOf
-figure-local totals s b vs vs' h =
-    let d = deltaAt b (layoutOf b) (s .«clock_rate») in
-    let t = startAt b (layoutOf b) (s .«clock_rate») in
-    ap totalsAre (total-local d d vs vs' t t (count b) (λ i x. refl) (λ i x y. refl) h)
+figure-local totals s b vs vs' h = ap totalsAre (totals-local s b vs vs' h)
 
 pub figure-from : (f : Figure) (s : Settings) (st : State) → Fresh s st → figureFrom f s (st .chart) (st .values) ≡ freshFigure f s (st .chart)
 figure-from f s st h = figure-local f s (st .chart) (row valueWidth (st .values)) (freshValues s (st .chart)) (h .values)

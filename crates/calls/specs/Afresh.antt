@@ -60,9 +60,12 @@ pub data Figure : Type 0 where
 pub data Amount : Type 0 where
   totalsAre : Skills → Amount
 
--- from the values by place; times come from the chart
+-- skills/*.rs, from the values by place; times come from the chart
+unfoldable pub totalsOf : Settings → List ℕ → (ℕ → List Float) → Skills
+totalsOf s b values = total (startAt b (layoutOf b) (s .«clock_rate»)) (deltaAt b (layoutOf b) (s .«clock_rate»)) values (count b)
+
 unfoldable pub figureOf : Figure → Settings → List ℕ → (ℕ → List Float) → Amount
-figureOf totals s b values = totalsAre (total (startAt b (layoutOf b) (s .«clock_rate»)) (deltaAt b (layoutOf b) (s .«clock_rate»)) values (count b))
+figureOf totals s b values = totalsAre (totalsOf s b values)
 
 abbrev pub freshFigure : Figure → Settings → List ℕ → Amount
 freshFigure f s b = figureOf f s b (freshValues s b)

@@ -17,7 +17,7 @@ use Rattle.replacing.specs.Replace.{putObject, replaceVerdict}
 use Rattle.evaluators.specs.Values.{valuesIn}
 use Rattle.skills.specs.Chart as Chart
 use Rattle.calls.specs.Tables.{valueWidth, recordEntries, valueEntries, entriesOf}
-use Rattle.calls.specs.Afresh.{totals, totalsAre, figureOf}
+use Rattle.calls.specs.Afresh.{totals, totalsAre, totalsOf, figureOf}
 use Rattle.calls.specs.Conditions.{Scratch, lengths, replace, readRecord, readValues, figure, scratchShort, readVerdict, figureVerdict, opening, refusal}
 use Rattle.calls.specs.Calls.{openStart, openMade, recordsStart, recordsMade, valuesStart, valuesMade, openRecords, openValues, editRecords, editValues, refused, replaced, recordIs, valuesAre, figureIs, Outcome, State, state, result, refuse, opened, openAnswer, openLeaves, edited, execute, verdictIn, outcome, cleared, scratchAfter}
 use Rattle.calls.proofs.Alone.{carried-out, refused-as}
@@ -108,5 +108,5 @@ module _ (b : List ℕ) (vs : List Float) (x : Scratch) where
   pub totals-carried-out : asked ≡ Accepted
       → (outcome (figure totals (lengths x)) (state b [] vs) ≡ result (figureIs (totalsAre (Chart.totalsOf b (layoutOf b) (settingsOf b .«clock_rate») vs))) b [] vs)
       × (scratchAfter totals (state b [] vs) x ≡ cleared x)
-  unfolding verdictIn refusal execute figureOf scratchAfter ifAccepted
+  unfolding verdictIn refusal execute figureOf totalsOf scratchAfter ifAccepted
   totals-carried-out e = (carried-out (figure totals (lengths x)) (state b [] vs) e, ap (λ (v : Verdict). ifAccepted v (cleared x) (λ q. x)) e)

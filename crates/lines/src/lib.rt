@@ -1,7 +1,7 @@
 // Lines of the programs' answers. As in `text`, each function appends at an offset of a lent buffer and returns the offset behind what it wrote.
 ghost use Rattle.text.specs.Buffer.{Puts};
 ghost use Rattle.evaluators.specs.Values.{rowOf};
-ghost use Rattle.opening.specs.Verdict.{numberOf, placeOf};
+ghost use Rattle.opening.specs.Conditions.{refusalNumber, refusalPlace};
 ghost use Rattle.lines.specs.Lines.{numberText, narrowText, flagText, refusalText, countText, placeText, skillsText, totalsText};
 ghost use Rattle.lines.specs.Lines.{jumpText, travelText, recordText};
 use evaluators::Values;
@@ -36,7 +36,7 @@ fn put_flag(out: &mut [u8], at: usize, flag: bool) -> usize
 
 // The word refused, the number of the condition and the place.
 pub fn put_refusal(out: &mut [u8], at: usize, r: Refusal) -> usize
-    ensures { λ end. ⌜ Puts (refusalText (numberOf r) (placeOf r)) (now (out .entry)) at (now (out .exit)) end ⌝ }
+    ensures { λ end. ⌜ Puts (refusalText (refusalNumber r) (refusalPlace r)) (now (out .entry)) at (now (out .exit)) end ⌝ }
 {
     let word = text::put_all(out, at, b"refused ");
     let number = text::put_decimal(out, word, r.number() as u64);

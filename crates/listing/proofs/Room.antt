@@ -4,7 +4,6 @@ use native.Mathlib.Omega.{arith}
 use mathlib.Core.Path.{_≡_, refl, sym, ap, _∙_}
 use mathlib.Core.Bool.{Bool, true, false, cond}
 use mathlib.Core.List.{List, [], _++_}
-use mathlib.Core.Option.{Option, none, some}
 use borrow.Author.Tests.{ltb-false, lt-ltb, le-ltb}
 use lib.Dec.{ltb}
 use lib.Ieee.{Float}
@@ -17,9 +16,10 @@ use Rattle.skills.specs.declared.Skills.{Skills}
 use Rattle.lines.specs.Lines.{placeText, totalsText, countText, refusalText}
 use Rattle.lines.specs.Lengths.{refusal-length, count-length, place-length, totals-length}
 use Rattle.evaluators.specs.Laws.{values-width}
-use Rattle.calls.specs.Conditions.{Met, firstOf, chartConditions}
-use Rattle.calls.specs.Calls.{unless, valueOf, totalsOf, totalsFrom}
-use Rattle.editor.specs.Rules.{rules}
+use Rattle.opening.specs.Conditions.{refusalNumber, refusalPlace, firstOf, ifAccepted, chartConditions}
+use Rattle.opening.specs.declared.Verdict.{Verdict}
+use Rattle.opening.specs.declared.Verdict.the-variants.{Accepted, Refused}
+use Rattle.calls.specs.Afresh.{freshValues, totalsOf}
 use Rattle.listing.specs.List.{limit, beyondText, metText, placesText, openedText, afreshText, chartText, listText, Filled}
 use Rattle.listing.proofs.Calls.{few-objects}
 
@@ -44,12 +44,12 @@ places-same f g (suc k) h =
     λ i. places-same f g k (λ j a c. h j a (omega arith)) i ++ placeText (suc k) (h (suc k) (omega arith) (omega arith) i)
 
 pub filled-text : (b : List ℕ) (vs : List Float) → Filled b vs → (n : ℕ) → n ≡ layoutOf b .n
-    → countText n ++ placesText (row 5 vs) (n - 1) ++ totalsText (totalsFrom rules (settingsOf b) b vs) ≡ afreshText b
+    → countText n ++ placesText (row 5 vs) (n - 1) ++ totalsText (totalsOf (settingsOf b) b (row 5 vs)) ≡ afreshText b
 unfolding afreshText openedText
 filled-text b vs f n e =
     (λ i. countText (e i) ++ placesText (row 5 vs) (e i - 1) ++ totalsText (f .totals i))
-    ∙ ap (λ (t : List ℕ). countText (layoutOf b .n) ++ t ++ totalsText (totalsOf rules (settingsOf b) b))
-    (places-same (row 5 vs) (valueOf rules (settingsOf b) b) (layoutOf b .n - 1) (λ j a c. f .values j a (omega arith)))
+    ∙ ap (λ (t : List ℕ). countText (layoutOf b .n) ++ t ++ totalsText (totalsOf (settingsOf b) b (freshValues (settingsOf b) b)))
+    (places-same (row 5 vs) (freshValues (settingsOf b) b) (layoutOf b .n - 1) (λ j a c. f .values j a (omega arith)))
 
 -- ---- The limit
 
@@ -70,23 +70,23 @@ places-length f h (suc k) =
     simp length-append (omega (arith, places-length f h k, place-length (suc k) (f (suc k)), h (suc k)))
 
 afresh-length : (b : List ℕ) → layoutOf b .n ≤ 583 → length (afreshText b) ≤ 65536
-unfolding afreshText openedText valueOf
+unfolding afreshText openedText freshValues
 afresh-length b h =
     let n = layoutOf b .n in
-    let values = valueOf rules (settingsOf b) b in
+    let values = freshValues (settingsOf b) b in
     simp length-append
-    (omega (arith, count-length n, places-length values (λ j. values-width _ _ _ _ j) (n - 1), totals-length (totalsOf rules (settingsOf b) b)))
+    (omega (arith, count-length n, places-length values (λ j. values-width _ _ _ _ j) (n - 1), totals-length (totalsOf (settingsOf b) b (freshValues (settingsOf b) b))))
 
 -- 65,536 bytes are enough for every listing
 pub list-length : (b : List ℕ) → length (listText b) ≤ 65536
-unfolding listText chartText beyondText metText unless
-list-length b = go (ltb limit (length b)) refl (firstOf (chartConditions rules b)) refl
+unfolding listText chartText beyondText metText ifAccepted
+list-length b = go (ltb limit (length b)) refl (firstOf (chartConditions b)) refl
   where
-    go : (t : Bool) → ltb limit (length b) ≡ t → (q : Option Met) → firstOf (chartConditions rules b) ≡ q
-        → length (cond t (refusalText 7 0) (unless q (λ m. refusalText (m .number) (m .place)) (afreshText b))) ≤ 65536
+    go : (t : Bool) → ltb limit (length b) ≡ t → (q : Verdict) → firstOf (chartConditions b) ≡ q
+        → length (cond t (refusalText 7 0) (ifAccepted q (afreshText b) (λ r. refusalText (refusalNumber r) (refusalPlace r)))) ≤ 65536
     go true e q o = omega (arith, refusal-length 7 0)
-    go false e none o = afresh-length b (few-objects b o (ltb-false limit (length b) e))
-    go false e (some m) o = omega (arith, refusal-length (m .number) (m .place))
+    go false e Accepted o = afresh-length b (few-objects b o (ltb-false limit (length b) e))
+    go false e (Refused r) o = omega (arith, refusal-length (refusalNumber r) (refusalPlace r))
 
 -- so that a listing at the start of such a buffer stands there whole
 pub listed : (b : List ℕ) {out out' : List ℕ} {end : ℕ} → Puts (listText b) out 0 out' end → 65536 ≤ length out

@@ -3,7 +3,6 @@ use Prim.Native.Nat.{ℕ, zero, suc, _-_, _*_, _≤_, _<_}
 use mathlib.Core.Path.{_≡_}
 use mathlib.Core.Bool.{cond}
 use mathlib.Core.List.{List, [], _++_}
-use mathlib.Core.Option.{none}
 use lib.Dec.{ltb}
 use lib.Ieee.{Float}
 use lib.ListN.{length}
@@ -11,9 +10,10 @@ use Rattle.tables.specs.Parts.{row}
 use Rattle.opening.specs.Header.{layoutOf, settingsOf}
 use Rattle.skills.specs.declared.Skills.{Skills}
 use Rattle.lines.specs.Lines.{refusalText, countText, placeText, totalsText}
-use Rattle.calls.specs.Conditions.{Met, firstOf, chartConditions}
-use Rattle.calls.specs.Calls.{unless, valueOf, totalsOf, totalsFrom}
-use Rattle.editor.specs.Rules.{rules}
+use Rattle.opening.specs.Conditions.{refusalNumber, refusalPlace, firstOf, ifAccepted, chartConditions, Opens}
+use Rattle.opening.specs.declared.Refusal.{Refusal}
+use Rattle.calls.specs.Tables.{valueWidth}
+use Rattle.calls.specs.Afresh.{freshValues, totalsOf}
 
 -- "reads a chart (to 32,768 bytes ..)"
 abbrev pub limit : ℕ
@@ -24,8 +24,8 @@ unfoldable pub beyondText : List ℕ
 beyondText = refusalText 7 0
 
 -- "A refusal prints `refused`, number, place"
-unfoldable pub metText : Met → List ℕ
-metText m = refusalText (m .number) (m .place)
+unfoldable pub metText : Refusal → List ℕ
+metText r = refusalText (refusalNumber r) (refusalPlace r)
 
 -- "per place from 1": the lines of places 1 to k, of values by place
 unfoldable pub placesText : (ℕ → List Float) → ℕ → List ℕ
@@ -38,11 +38,11 @@ openedText n values totals = countText n ++ placesText values (n - 1) ++ totalsT
 
 -- what is listed of a chart that opens, worked out afresh
 unfoldable pub afreshText : List ℕ → List ℕ
-afreshText b = openedText (layoutOf b .n) (valueOf rules (settingsOf b) b) (totalsOf rules (settingsOf b) b)
+afreshText b = openedText (layoutOf b .n) (freshValues (settingsOf b) b) (totalsOf (settingsOf b) b (freshValues (settingsOf b) b))
 
 -- within the limit: the first of conditions 1 to 6 that is met, else the chart's values and totals
 unfoldable pub chartText : List ℕ → List ℕ
-chartText b = unless (firstOf (chartConditions rules b)) metText (afreshText b)
+chartText b = ifAccepted (firstOf (chartConditions b)) (afreshText b) metText
 
 -- "before any check"
 unfoldable pub listText : List ℕ → List ℕ
@@ -52,16 +52,16 @@ listText b = cond (ltb limit (length b)) beyondText (chartText b)
 
 -- the chart opens, and the table of values holds what is worked out afresh
 pub record Filled (b : List ℕ) (vs : List Float) : Type 0 where
-  pub opens : firstOf (chartConditions rules b) ≡ none
-  pub rows : 5 * layoutOf b .n ≤ length vs
-  pub values : (j : ℕ) → 1 ≤ j → j < layoutOf b .n → row 5 vs j ≡ valueOf rules (settingsOf b) b j
-  pub totals : totalsFrom rules (settingsOf b) b vs ≡ totalsOf rules (settingsOf b) b
+  pub opens : Opens b
+  pub rows : valueWidth * layoutOf b .n ≤ length vs
+  pub values : (j : ℕ) → 1 ≤ j → j < layoutOf b .n → row valueWidth vs j ≡ freshValues (settingsOf b) b j
+  pub totals : totalsOf (settingsOf b) b (row valueWidth vs) ≡ totalsOf (settingsOf b) b (freshValues (settingsOf b) b)
 
 -- the tables and the scratch are long enough for every chart within the limit, which has at most 583 objects
-pub record Room (records values aim still speed light : ℕ) : Type 0 where
+pub record Room (records values aim aimNoSliders speed flashlight : ℕ) : Type 0 where
   pub records-room : 9344 ≤ records
   pub values-room : 2920 ≤ values
   pub aim-room : 8192 ≤ aim
-  pub still-room : 8192 ≤ still
+  pub aimNoSliders-room : 8192 ≤ aimNoSliders
   pub speed-room : 8192 ≤ speed
-  pub light-room : 8192 ≤ light
+  pub flashlight-room : 8192 ≤ flashlight

@@ -6,8 +6,7 @@ ghost use Rattle.tables.specs.Parts.{row};
 ghost use Rattle.opening.specs.Header.{layoutOf, settingsOf};
 ghost use Rattle.lines.specs.Lines.{placeText, totalsText};
 ghost use Rattle.listing.specs.List.{limit, placesText, afreshText, chartText, listText, Filled, Room};
-ghost use Rattle.calls.specs.Calls.{totalsFrom, totalsOf};
-ghost use Rattle.editor.specs.Rules.{rules};
+ghost use Rattle.calls.specs.Afresh.{totalsOf};
 use editor::TotalsAnswer;
 use editor::ValuesAnswer;
 use opening::Refusal;
@@ -63,7 +62,7 @@ fn put_totals(
     requires { ⌜ Filled (now chart) (now values) × Room 9344 2920 (length (now a)) (length (now b)) (length (now c)) (length (now d)) ⌝ }
     ensures { λ r. ⌜
         Puts
-        (totalsText (totalsFrom rules (settingsOf (now (chart .entry))) (now (chart .entry)) (now (values .entry))))
+        (totalsText (totalsOf (settingsOf (now (chart .entry))) (now (chart .entry)) (row 5 (now (values .entry)))))
         (now (out .entry))
         at
         (now (out .exit))

@@ -1,6 +1,7 @@
 -- `listing::put_place` meets its contract: the reading is carried out, and gives the table's row. Assumes nothing.
 use mathlib.Core.Path.{ap}
 use Rattle.text.specs.Buffer.{same-text}
+use Rattle.calls.specs.Calls.{Outcome}
 use Rattle.lines.specs.Lines.{placeText}
 use Rattle.listing.proofs.Calls.{read-row, read-carried-out}
 use borrow.Author.Needs.{needs}
@@ -28,7 +29,7 @@ same-length c = search needs
 returns : tie.Need-returns
 returns c =
     let a = c .before .before .before .before .before .before .before .before .before .before .before .args in
-    absurd (read-carried-out (a .chart .now) (a .values .now) (c .before .before .before .before .before .before .before .before .before .before .before .pre .0) (a .j) (c .before .before .before .before .before .before .before .before .before .before .before .pre .1) (c .before .before .before .before .before .before .before .before .before .before .before .pre .2) _ _ (c .before .before .before .before .before .r .given .1) (c .before .before .before .before .before .before .before .read-values .ensures))
+    absurd (read-carried-out (a .chart .now) (a .values .now) (c .before .before .before .before .before .before .before .before .before .before .before .pre .0) (a .j) (c .before .before .before .before .before .before .before .before .before .before .before .pre .1) (c .before .before .before .before .before .before .before .before .before .before .before .pre .2) _ _ (c .before .before .before .before .before .r .given .1) (ap (λ (x : Outcome). x .answer) (c .before .before .before .before .before .before .before .read-values .ensures)))
 
 same-length-2 : tie.Need-same-length-2
 same-length-2 c = search needs
@@ -36,7 +37,7 @@ same-length-2 c = search needs
 returns-2 : tie.Need-returns-2
 returns-2 c =
     let a = c .before .before .before .before .before .before .before .before .before .before .before .args in
-    same-text (ap (placeText (a .j)) (read-row (a .chart .now) (a .values .now) (c .before .before .before .before .before .before .before .before .before .before .before .pre .0) (a .j) (c .before .before .before .before .before .before .before .before .before .before .before .pre .1) (c .before .before .before .before .before .before .before .before .before .before .before .pre .2) _ _ (c .before .before .before .before .before .v .given .1) (c .before .before .before .before .before .before .before .read-values .ensures))) (c .before .before .put-values .ensures)
+    same-text (ap (placeText (a .j)) (read-row (a .chart .now) (a .values .now) (c .before .before .before .before .before .before .before .before .before .before .before .pre .0) (a .j) (c .before .before .before .before .before .before .before .before .before .before .before .pre .1) (c .before .before .before .before .before .before .before .before .before .before .before .pre .2) _ _ (c .before .before .before .before .before .v .given .1) (ap (λ (x : Outcome). x .answer) (c .before .before .before .before .before .before .before .read-values .ensures)))) (c .before .before .put-values .ensures)
 
 pub put-place-spec : {M : Type 1} → statement M
 put-place-spec =

@@ -22,8 +22,8 @@ put-opened-requires : tie.Need-put-opened-requires
 put-opened-requires c κs =
     let a = c .before .before .before .before .before .before .before .before .before .before .before .before .before .before .before .before .before .before .before .before .before .before .before .args in
     let m = c .before .before .before .before .before .before .before .before .before .before .before .before .before .before .before .before .before .before .before .before .before .before .before .pre .1 in (
-      accepted-filled (a .chart .now) (a .records .now) (a .values .now) (c .before .before .before .before .before .before .before .before .before .before .before .before .before .before .before .before .before .before .before .before .before .before .before .pre .0) (m .records-room) (m .values-room) _ (c .before .before .before .before .before .before .enum-told .given .1) (c .before .before .before .before .before .before .before .before .before .before .before .before .«open» .ensures .0) _ (c .before .before .before .before .before .before .before .before .before .before .before .before .«open» .ensures .1 .1),
-      record { records-room = omega arith; values-room = omega arith; aim-room = m .aim-room; still-room = m .still-room; speed-room = m .speed-room; light-room = m .light-room },
+      accepted-filled (a .chart .now) (a .records .now) (a .values .now) (c .before .before .before .before .before .before .before .before .before .before .before .before .before .before .before .before .before .before .before .before .before .before .before .pre .0) (m .records-room) (m .values-room) _ (c .before .before .before .before .before .before .enum-told .given .1) (c .before .before .before .before .before .before .before .before .before .before .before .before .«open» .ensures .0) _ (c .before .before .before .before .before .before .before .before .before .before .before .before .«open» .ensures .1),
+      record { records-room = omega arith; values-room = omega arith; aim-room = m .aim-room; aimNoSliders-room = m .aimNoSliders-room; speed-room = m .speed-room; flashlight-room = m .flashlight-room },
     )
 
 same-length : tie.Need-same-length
