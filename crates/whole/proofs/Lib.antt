@@ -1,4 +1,5 @@
 pub mod Signs
+pub mod Sized
 pub mod Add52
 pub mod Rest
 pub mod NarrowRanges

@@ -22,7 +22,7 @@ use Rattle.floats.specs.Literals.{half-is, one-is, two-is}
 use Rattle.whole.specs.Whole.{truncOf, clear}
 use Rattle.whole.specs.WholeValues.{add-at}
 use Rattle.whole.specs.WholeLaws.{neg-round}
-use Rattle.whole.proofs.Add52.{large-exp, fits-parts, trunc-value, Sized, is-clear, held, sign-clear, sign-set}
+use Rattle.whole.proofs.Sized.{large-exp, fits-parts, trunc-value, Sized, is-clear, held, sign-clear, sign-set}
 
 -- 2 ^ 53 = 9007199254740992
 abbrev pub c53 : Float

@@ -1,7 +1,7 @@
 -- `whole::rem_one` meets its contract: the size less its whole part is the size's remainder, and the sign is put back. Assumes nothing.
 use native.Mathlib.Omega.{arith}
 use borrow.Author.Needs.{needs}
-use Rattle.whole.proofs.Add52.{Sized}
+use Rattle.whole.proofs.Sized.{Sized}
 use Rattle.whole.proofs.Rest.{rem-clear, one-set, one-of}
 use Rattle.whole.proofs.rem_one.Statement.{statement}
 use Rattle.whole.proofs.rem_one.Tie as tie

@@ -1,7 +1,7 @@
 -- `whole::rem_two` meets its contract: the remainder of the size, with the sign put back. Assumes nothing.
 use native.Mathlib.Omega.{arith}
 use borrow.Author.Needs.{needs}
-use Rattle.whole.proofs.Add52.{Sized, is-clear}
+use Rattle.whole.proofs.Sized.{Sized, is-clear}
 use Rattle.whole.proofs.Rest.{rem-clear, two-set}
 use Rattle.whole.proofs.rem_two.Statement.{statement}
 use Rattle.whole.proofs.rem_two.Tie as tie

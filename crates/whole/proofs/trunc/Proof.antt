@@ -2,7 +2,7 @@
 use mathlib.Core.Path.{sym}
 use native.Mathlib.Omega.{arith}
 use borrow.Author.Needs.{needs}
-use Rattle.whole.proofs.Add52.{Sized, small, large, trunc-clear, trunc-set}
+use Rattle.whole.proofs.Sized.{Sized, small, large, trunc-clear, trunc-set}
 use Rattle.whole.proofs.trunc.Statement.{statement}
 use Rattle.whole.proofs.trunc.Tie as tie
 
