@@ -24,5 +24,5 @@ pub record Covers (t : List Float) (first last j : ℕ) : Type 0 where
   pub from : first ≤ j
   pub far : first ≤ firstPlace j
   pub to : j ≤ last
-  pub few : last < 16384
+  pub few : last ≤ 16384
   pub room : 16 * (last + 1 - first) ≤ length t
