@@ -17,9 +17,9 @@ use Rattle.osu_object.specs.Base.{baseOf}
 use Rattle.object.specs.declared.OsuDifficultyObject.{OsuDifficultyObject as Record}
 use Rattle.records.specs.Rows.{rowOf, recordAt as entryAt}
 use Rattle.records.proofs.Laws.{row-length, record-is}
-use Rattle.sight.specs.Part.{firstPlace, partAt}
-use Rattle.sight.specs.Sight.{sightOf, viewOf, viewAt}
-use Rattle.sight.proofs.Parts.{before-part}
+use Rattle.records.specs.Part.{firstPlace, partAt}
+use Rattle.records.specs.Sight.{sightOf, viewOf, viewAt}
+use Rattle.records.proofs.Parts.{before-part}
 use Rattle.aim.specs.Aim.{aimOf}
 use Rattle.aim.proofs.Value.{aim-same}
 use Rattle.speed.specs.Speed.{speedAtPlace}

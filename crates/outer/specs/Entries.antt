@@ -8,7 +8,7 @@ use Rattle.objects.specs.declared.Layout.{Layout}
 use Rattle.osu_object.specs.Osu.{objectOf}
 use Rattle.osu_object.specs.Base.{repeatsOf}
 use Rattle.object.specs.declared.OsuDifficultyObject.{OsuDifficultyObject}
-use Rattle.sight.specs.Sight.{viewOf}
+use Rattle.records.specs.Sight.{viewOf}
 use Rattle.aim.specs.Aim.{aimOf}
 use Rattle.speed.specs.Speed.{speedAtPlace}
 use Rattle.rhythm.specs.Rhythm.{rhythmAtPlace}

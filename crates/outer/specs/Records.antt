@@ -6,7 +6,7 @@ use lib.Dec.{T, ltb}
 use lib.ListN.{getD}
 use lib.Ieee.{nan, binary32, binary64, ofBits, fits}
 use Rattle.object.specs.declared.OsuDifficultyObject.{OsuDifficultyObject}
-use Rattle.sight.specs.Part.{firstPlace}
+use Rattle.records.specs.Part.{firstPlace}
 
 -- a record of zeros: what stands past the end of a slice
 abbrev pub noRecord : OsuDifficultyObject

@@ -106,7 +106,7 @@ fn aim_in(
 {
     let mut t = [0.0f64; 544];
     put_window(&mut t[..], w);
-    let first = sight::first_place(j);
+    let first = records::first_place(j);
     aim::evaluate_diff_of(&t[..], chart, lay, j - first, j, with_slider_travel_dist)
 }
 
@@ -124,7 +124,7 @@ fn speed_in(
 {
     let mut t = [0.0f64; 544];
     put_window(&mut t[..], w);
-    let first = sight::first_place(j);
+    let first = records::first_place(j);
     let last = last_place(j, records);
     speed::evaluate_diff_of(&t[..], first, last, chart, lay, j, hit_window, autopilot)
 }
@@ -142,7 +142,7 @@ fn rhythm_in(
 {
     let mut t = [0.0f64; 544];
     put_window(&mut t[..], w);
-    let first = sight::first_place(j);
+    let first = records::first_place(j);
     let last = last_place(j, records);
     rhythm::evaluate_diff_of(&t[..], first, last, chart, lay, j, hit_window)
 }
@@ -160,7 +160,7 @@ fn flashlight_in(
 {
     let mut t = [0.0f64; 544];
     put_window(&mut t[..], w);
-    let first = sight::first_place(j);
+    let first = records::first_place(j);
     evaluator.evaluate_diff_of(&t[..], chart, lay, j - first, j, hidden)
 }
 

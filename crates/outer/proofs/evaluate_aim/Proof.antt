@@ -36,7 +36,7 @@ use denote.Triple.Walked.{says, needs, Stays, stay-none, stay-none-slice, walkOf
 use denote.Exit.{yes}
 use Rattle.outer.proofs.Calls.{Of, calls-with, held-asks}
 use Rattle.osu_object.specs.Osu.{Object, Ready, objectOf}
-use Rattle.sight.specs.Sight.{viewOf}
+use Rattle.records.specs.Sight.{viewOf}
 use Rattle.aim.specs.Aim.{aimOf}
 use Rattle.object.specs.declared.OsuDifficultyObject.{OsuDifficultyObject as Record}
 use Rattle.outer.specs.Records.{recordOf, windowOf, inWindow}

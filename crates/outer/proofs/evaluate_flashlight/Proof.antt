@@ -37,7 +37,7 @@ use denote.Exit.{yes}
 use Rattle.outer.proofs.Calls.{Of, calls-with, held-asks}
 use Rattle.osu_object.specs.Osu.{Object, Ready, objectOf}
 use Rattle.osu_object.specs.Base.{repeatsOf}
-use Rattle.sight.specs.Sight.{viewOf}
+use Rattle.records.specs.Sight.{viewOf}
 use Rattle.flashlight.specs.Flashlight.{flashlightOf}
 use Rattle.object.specs.declared.OsuDifficultyObject.{OsuDifficultyObject as Record}
 use Rattle.outer.specs.Records.{recordOf, windowOf, inWindow}

@@ -41,7 +41,7 @@ use denote.Triple.Statement.{Triple}
 use denote.Triple.Table.{entered, cited}
 use denote.Triple.Walked.{says, Stays, stay-none, stay-none-slice, walkOf, goes-none, goes-none-slice, Walks, ends-at, walked, walk-meets}
 use denote.Exit.{yes}
-use Rattle.sight.specs.Part.{firstPlace}
+use Rattle.records.specs.Part.{firstPlace}
 use Rattle.outer.specs.Records.{noRecord, recordAt, recordOf, slots, windowOf}
 use Rattle.object.specs.declared.OsuDifficultyObject.{OsuDifficultyObject as Record}
 use Rattle.object.proofs.OsuDifficultyObject.Laws as T′

@@ -51,7 +51,7 @@ use Rattle.osu_object.specs.Base.{repeatsOf}
 use Rattle.object.specs.declared.OsuDifficultyObject.{OsuDifficultyObject as Record}
 use Rattle.object.proofs.OsuDifficultyObject as T
 use Rattle.object.proofs.OsuDifficultyObject.Laws as T′
-use Rattle.sight.specs.Sight.{viewOf}
+use Rattle.records.specs.Sight.{viewOf}
 use Rattle.aim.specs.Aim.{aimOf}
 use Rattle.speed.specs.Speed.{speedAtPlace}
 use Rattle.rhythm.specs.Rhythm.{rhythmAtPlace}
