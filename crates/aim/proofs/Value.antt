@@ -17,10 +17,10 @@ use Rattle.objects.specs.declared.Layout.{Layout}
 use Rattle.osu_object.specs.Osu.{objectOf}
 use Rattle.osu_object.specs.Base.{baseOf}
 use Rattle.records.specs.Rows.{recordAt}
-use Rattle.sight.specs.Part.{firstPlace, endPlace}
-use Rattle.sight.specs.Sight.{View, sightOf, viewOf, viewAt}
-use Rattle.sight.specs.declared.Sight.{Sight}
-use Rattle.sight.proofs.Parts.{ltb-iff, before-part, view-part}
+use Rattle.records.specs.Part.{firstPlace, endPlace}
+use Rattle.records.specs.Sight.{View, sightOf, viewOf, viewAt}
+use Rattle.records.specs.declared.Sight.{Sight}
+use Rattle.records.proofs.Parts.{ltb-iff, before-part, view-part}
 use Rattle.aim.specs.declared.AimRule.{AimRule}
 use Rattle.aim.specs.declared.AimRule.the-variants.{TooFew, Spinner, Acute, Wide}
 use Rattle.aim.specs.declared.AimParts.{AimParts}

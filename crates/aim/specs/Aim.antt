@@ -14,8 +14,8 @@ use Rattle.pos.specs.declared.Pos.{Pos}
 use Rattle.pos.specs.Pos.{_⊖₃_, _-ₚ_, lengthOf}
 use Rattle.object.specs.declared.OsuDifficultyObject.{OsuDifficultyObject}
 use Rattle.object.specs.Constants.{normalizedRadius}
-use Rattle.sight.specs.Sight.{View}
-use Rattle.sight.specs.declared.Sight.{Sight}
+use Rattle.records.specs.Sight.{View}
+use Rattle.records.specs.declared.Sight.{Sight}
 use Rattle.aim.specs.Constants.{diameter, twoDiameters, threeDiameters, wideAngleMultiplier, acuteAngleMultiplier, sliderMultiplier}
 use Rattle.aim.specs.Constants.{velocityChangeMultiplier, wiggleMultiplier, fiveQuarters, acuteKept, acuteLost, acuteBpm, fullAcuteBpm}
 use Rattle.aim.specs.Constants.{wigglePower, acuteDegrees, wideDegrees, wiggleDegrees, fullWiggleDegrees, closeLoss, zero32, one32}

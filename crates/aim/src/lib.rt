@@ -6,13 +6,13 @@ ghost use lib.ListN.{length};
 ghost use Rattle.osu_object.specs.Osu.{Ready, objectOf};
 ghost use Rattle.osu_object.specs.Base.{baseOf};
 ghost use Rattle.records.specs.Rows.{recordAt};
-ghost use Rattle.sight.specs.Sight.{viewOf, viewAt};
+ghost use Rattle.records.specs.Sight.{viewOf, viewAt};
 ghost use Rattle.aim.specs.Aim.{velocityOf, wideAngle, acuteAngle, acuteRepeated, acuteOf, wideOf, wiggleOf, spacingOf, closeOf, anglesOf};
 ghost use Rattle.aim.specs.Aim.{changeOf, velChange, sliderBonus, ruleOf, noParts, bonusesOf, combineOf, partsOf, aimOf};
 use object::OsuDifficultyObject;
 use objects::Layout;
 use pos::Pos;
-use sight::Sight;
+use records::Sight;
 
 const RADIUS: i32 = OsuDifficultyObject::NORMALIZED_RADIUS;
 
@@ -341,12 +341,12 @@ pub fn parts_of(
     if i < 2 {
         return AimParts::none(AimRule::TooFew);
     }
-    let curr = sight::sight_at(t, chart, lay, i, j);
-    let last = sight::sight_at(t, chart, lay, i - 1, j - 1);
+    let curr = records::sight_at(t, chart, lay, i, j);
+    let last = records::sight_at(t, chart, lay, i - 1, j - 1);
     if curr.base.spinner | last.base.spinner {
         return AimParts::none(AimRule::Spinner);
     }
-    let last_last = sight::sight_at(t, chart, lay, i - 2, j - 2);
+    let last_last = records::sight_at(t, chart, lay, i - 2, j - 2);
     let distance = spacing(chart, lay, i, j, last.base.pos);
     bonuses(
         curr,
@@ -386,8 +386,8 @@ pub fn parts_place(
     requires { ⌜ (1 ≤ j) × (j < n) × (n ≤ lay .n) × (16 * n ≤ length (now t)) × Ready (now chart) lay ⌝ }
     ensures { λ r. ⌜ r ≡ partsOf (viewOf (objectOf (now (chart .entry)) lay) (recordAt (now (t .entry))) j) (j - 1) «with_slider_travel_dist» ⌝ }
 {
-    let a = sight::first_place(j);
-    let e = sight::end_place(j, n);
+    let a = records::first_place(j);
+    let e = records::end_place(j, n);
     let from = 16 * a;
     let to = 16 * e;
     parts_of(&t[from..to], chart, lay, j - a, j, with_slider_travel_dist)
@@ -405,8 +405,8 @@ pub fn evaluate_place(
     requires { ⌜ (1 ≤ j) × (j < n) × (n ≤ lay .n) × (16 * n ≤ length (now t)) × Ready (now chart) lay ⌝ }
     ensures { λ r. ⌜ r ≡ aimOf (viewOf (objectOf (now (chart .entry)) lay) (recordAt (now (t .entry))) j) (j - 1) «with_slider_travel_dist» ⌝ }
 {
-    let a = sight::first_place(j);
-    let e = sight::end_place(j, n);
+    let a = records::first_place(j);
+    let e = records::end_place(j, n);
     let from = 16 * a;
     let to = 16 * e;
     evaluate_diff_of(&t[from..to], chart, lay, j - a, j, with_slider_travel_dist)

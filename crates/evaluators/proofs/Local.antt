@@ -9,8 +9,8 @@ use Rattle.opening.specs.declared.Settings.{Settings}
 use Rattle.osu_object.specs.Osu.{Object}
 use Rattle.osu_object.specs.Base.{baseOf, repeatsOf}
 use Rattle.object.specs.declared.OsuDifficultyObject.{OsuDifficultyObject}
-use Rattle.sight.specs.Sight.{sightOf, viewOf}
-use Rattle.sight.proofs.Parts.{ltb-iff}
+use Rattle.records.specs.Sight.{sightOf, viewOf}
+use Rattle.records.proofs.Parts.{ltb-iff}
 use Rattle.aim.specs.Aim.{aimOf}
 use Rattle.aim.proofs.Value.{aim-same}
 use Rattle.speed.specs.Speed.{speedAtPlace}

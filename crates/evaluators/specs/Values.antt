@@ -9,7 +9,7 @@ use Rattle.osu_object.specs.Osu.{Object, objectOf}
 use Rattle.osu_object.specs.Base.{repeatsOf}
 use Rattle.object.specs.declared.OsuDifficultyObject.{OsuDifficultyObject}
 use Rattle.records.specs.Rows.{recordAt}
-use Rattle.sight.specs.Sight.{viewOf}
+use Rattle.records.specs.Sight.{viewOf}
 use Rattle.aim.specs.Aim.{aimOf}
 use Rattle.speed.specs.Speed.{speedAtPlace}
 use Rattle.rhythm.specs.Rhythm.{rhythmAtPlace}

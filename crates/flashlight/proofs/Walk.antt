@@ -16,10 +16,10 @@ use Rattle.osu_object.specs.Osu.{objectOf}
 use Rattle.osu_object.specs.Base.{baseOf, repeatsOf}
 use Rattle.object.specs.declared.OsuDifficultyObject.{OsuDifficultyObject}
 use Rattle.records.specs.Rows.{recordAt}
-use Rattle.sight.specs.Part.{firstPlace, endPlace}
-use Rattle.sight.specs.Sight.{View, sightOf, viewOf, viewAt}
-use Rattle.sight.specs.declared.Sight.{Sight}
-use Rattle.sight.proofs.Parts.{before-part, view-part}
+use Rattle.records.specs.Part.{firstPlace, endPlace}
+use Rattle.records.specs.Sight.{View, sightOf, viewOf, viewAt}
+use Rattle.records.specs.declared.Sight.{Sight}
+use Rattle.records.proofs.Parts.{before-part, view-part}
 use Rattle.flashlight.specs.Constants.{history}
 use Rattle.flashlight.specs.declared.FlashlightEvaluator.{FlashlightEvaluator}
 use Rattle.flashlight.specs.declared.FlashlightState.{FlashlightState}

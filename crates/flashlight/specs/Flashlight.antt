@@ -12,8 +12,8 @@ use Rattle.opening.specs.declared.Settings.{Settings}
 use Rattle.pos.specs.Pos.{_-ₚ_, lengthOf}
 use Rattle.object.specs.declared.OsuDifficultyObject.{OsuDifficultyObject}
 use Rattle.object.specs.Reading.{opacityAt}
-use Rattle.sight.specs.Sight.{View}
-use Rattle.sight.specs.declared.Sight.{Sight}
+use Rattle.records.specs.Sight.{View}
+use Rattle.records.specs.declared.Sight.{Sight}
 use Rattle.flashlight.specs.Constants.{scaledRadius, maxOpacityBonus, hiddenBonus, minVelocity, sliderMultiplier, minAngleMultiplier}
 use Rattle.flashlight.specs.Constants.{seenDist, stackDist, sameAngle, repeatLoss, history}
 use Rattle.flashlight.specs.declared.FlashlightEvaluator.{FlashlightEvaluator}

@@ -5,14 +5,14 @@ ghost use lib.ListN.{length};
 ghost use Rattle.osu_object.specs.Osu.{Ready, objectOf};
 ghost use Rattle.osu_object.specs.Base.{repeatsOf};
 ghost use Rattle.records.specs.Rows.{recordAt};
-ghost use Rattle.sight.specs.Sight.{viewOf, viewAt};
+ghost use Rattle.records.specs.Sight.{viewOf, viewAt};
 ghost use Rattle.flashlight.specs.Constants.{history};
 ghost use Rattle.flashlight.specs.Flashlight.{evaluatorOf, opacityBonus, smallDistNerf, addedOf, repeatedOf, freshState, stepOf, turnsOf};
 ghost use Rattle.flashlight.specs.Flashlight.{hiddenOf, sharedOf, sliderBonus, valueOf, flashlightOf};
 use object::OsuDifficultyObject;
 use objects::Layout;
 use opening::Settings;
-use sight::Sight;
+use records::Sight;
 
 pub struct FlashlightEvaluator {
     pub scaling_factor: f64,
@@ -180,12 +180,12 @@ impl FlashlightEvaluator {
         requires { ⌜ (n ≤ i) × (n ≤ history) × (i ≤ 32) × (i < j) × (16 * i + 16 ≤ length (now t)) × Ready (now chart) lay × (j < lay .n) ⌝ }
         ensures { λ r. ⌜ r ≡ turnsOf self (viewAt (now (t .entry)) (now (chart .entry)) lay i j) hidden n ⌝ }
     {
-        let curr = sight::sight_at(t, chart, lay, i, j);
+        let curr = records::sight_at(t, chart, lay, i, j);
         let mut last = curr.diff;
         let mut s = FlashlightState::new();
         let mut k: usize = 0;
         while k < n {
-            let obj = sight::sight_at(t, chart, lay, i - (k + 1), j - (k + 1));
+            let obj = records::sight_at(t, chart, lay, i - (k + 1), j - (k + 1));
             s = self.step(s, curr, last, obj, k, hidden);
             last = obj.diff;
             k += 1;
@@ -246,7 +246,7 @@ impl FlashlightEvaluator {
         requires { ⌜ (i ≤ 32) × (i < j) × (16 * i + 16 ≤ length (now t)) × Ready (now chart) lay × (j < lay .n) ⌝ }
         ensures { λ r. ⌜ r ≡ flashlightOf self (viewAt (now (t .entry)) (now (chart .entry)) lay i j) i (repeatsOf (objectOf (now (chart .entry)) lay j)) hidden ⌝ }
     {
-        let curr = sight::sight_at(t, chart, lay, i, j);
+        let curr = records::sight_at(t, chart, lay, i, j);
         let base = curr.base;
         if base.spinner {
             return 0.0;
@@ -269,8 +269,8 @@ impl FlashlightEvaluator {
         requires { ⌜ (1 ≤ j) × (j < n) × (n ≤ lay .n) × (16 * n ≤ length (now t)) × Ready (now chart) lay ⌝ }
         ensures { λ r. ⌜ r ≡ flashlightOf self (viewOf (objectOf (now (chart .entry)) lay) (recordAt (now (t .entry))) j) (j - 1) (repeatsOf (objectOf (now (chart .entry)) lay j)) hidden ⌝ }
     {
-        let a = sight::first_place(j);
-        let e = sight::end_place(j, n);
+        let a = records::first_place(j);
+        let e = records::end_place(j, n);
         let from = 16 * a;
         let to = 16 * e;
         self.evaluate_diff_of(&t[from..to], chart, lay, j - a, j, hidden)

@@ -1,4 +1,4 @@
--- Two slices in a walk: a `&[R]` and a `&[Q]`, each at its own lifetime, and plain data. A walk holds `Held` (`walk`'s `Calls.antt`) of each.
+-- Two slices in a walk: a `&[R]` and a `&[Q]`, each at its own lifetime, and plain data. A walk holds `Held` (`Calls.antt`) of each.
 --     both-had         what a function of the two and plain data has at entry gives both.        both-gives       and both what it has at exit, with its result
 --     both-asks        of both, what a callee asks that takes the two and plain data, where what it requires holds.        both-back        and back, once it has returned
 --     held-needs       of one, what a callee asks that takes it and plain data, where what it requires holds
@@ -18,7 +18,7 @@ use denote.RattleType.{RattleType, Denots, Valss, owns}
 use denote.Ref.{RefT}
 use denote.Slice.{ShrSlice, slice-vals, shr-slice-copy}
 use denote.Steps.{nothing}
-use Rattle.walk.proofs.Calls.{Held, held-asks}
+use Rattle.outer.proofs.Calls.{Held, held-asks}
 
 module _ {M : Type 1} (𝓤 : URA M) (φ : Type 0) (holds : φ) where
   -- a fact that holds is had beside anything

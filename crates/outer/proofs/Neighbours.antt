@@ -1,4 +1,4 @@
--- The call of `nth` in a walk, as one rule (`walk`'s `Calls.antt`). A walk that uses it holds `Held R κ q x` at the head of its context.
+-- The call of `nth` in a walk, as one rule (`Calls.antt`). A walk that uses it holds `Held R κ q x` at the head of its context.
 -- Assumes `Given`.
 use mathlib.Core.Path.{refl}
 use Prim.Native.Nat.{ℕ, _<_, _^_}
@@ -25,7 +25,7 @@ use denote.Slice.{sliceVal, ShrSlice, slice-vals}
 use denote.Triple.Statement.{Triple}
 use Rattle.outer.specs.Records.{recordAt}
 use Rattle.object.specs.declared.OsuDifficultyObject.{OsuDifficultyObject as Record}
-use Rattle.walk.proofs.Calls.{Of, calls-with, Held, held-asks}
+use Rattle.outer.proofs.Calls.{Of, calls-with, Held, held-asks}
 use Rattle.outer.proofs.Rows.{R, vals, mach, tells}
 use Rattle.outer.proofs.nth as nth
 use Rattle.outer.proofs.nth.Symbol.{name as #outer·nth}

@@ -2,10 +2,12 @@
 use Prim.Native.Nat.{ℕ, _+_, _-_, min, _≤_, _<_}
 use native.Mathlib.Omega.{arith}
 use mathlib.Core.Path.{_≡_, refl, ap, _∙_}
-use mathlib.Core.Bool.{Bool}
+use mathlib.Core.Bool.{Bool, true, false, cond}
 use mathlib.Core.List.{List}
+use lib.Dec.{ltb}
 use lib.Ieee.{Float, binary32}
 use lib.ListN.{length}
+use borrow.Author.Tests.{lt-ltb, le-ltb}
 use Rattle.whole.specs.NarrowLaws.{narrow-widened}
 use Rattle.tables.specs.Parts.{fill}
 use Rattle.tables.specs.Rows.{row-fill-in}
@@ -15,9 +17,9 @@ use Rattle.osu_object.specs.Base.{baseOf}
 use Rattle.object.specs.declared.OsuDifficultyObject.{OsuDifficultyObject as Record}
 use Rattle.records.specs.Rows.{rowOf, recordAt as entryAt}
 use Rattle.records.proofs.Laws.{row-length, record-is}
-use Rattle.sight.specs.Part.{firstPlace, partAt}
-use Rattle.sight.specs.Sight.{sightOf, viewOf, viewAt}
-use Rattle.sight.proofs.Parts.{before-part}
+use Rattle.records.specs.Part.{firstPlace, partAt}
+use Rattle.records.specs.Sight.{sightOf, viewOf, viewAt}
+use Rattle.records.proofs.Parts.{before-part}
 use Rattle.aim.specs.Aim.{aimOf}
 use Rattle.aim.proofs.Value.{aim-same}
 use Rattle.speed.specs.Speed.{speedAtPlace}
@@ -27,7 +29,7 @@ use Rattle.rhythm.proofs.Laws.{rhythm-same}
 use Rattle.flashlight.specs.declared.FlashlightEvaluator.{FlashlightEvaluator}
 use Rattle.flashlight.specs.Flashlight.{flashlightOf}
 use Rattle.flashlight.proofs.Walk.{flashlight-same}
-use Rattle.outer.specs.Records.{recordOf, windowOf, slotAt, inWindow, InF32, InF32s}
+use Rattle.outer.specs.Records.{recordOf, windowOf, slotAt, inWindow, lastOf, InF32, InF32s}
 use Rattle.outer.proofs.Slots.{slot-is}
 
 -- two tables agree on the places of a window of place j
@@ -63,6 +65,14 @@ slot-of a p l = omega arith
 place-of : (a p : ℕ) → a ≤ p → a + (p - a) ≡ p
 place-of a p h = omega arith
 
+-- j is before the last place of the window where it is before the end of the slice
+pub next-alike : (j last records : ℕ) → last ≡ lastOf j records → ltb j last ≡ ltb j records
+next-alike j last records e = ap (ltb j) e ∙ go (ltb j records)
+  where
+    go : (b : Bool) → ltb j (cond b (j + 1) j) ≡ b
+    go true = lt-ltb j (j + 1) (omega arith)
+    go false = le-ltb j j (omega arith)
+
 -- ---- the values of tables that agree
 
 module _ (os : ℕ → Object) (rs qs : ℕ → Record) (j : ℕ) (one : 1 ≤ j) (same : Agree j rs qs) where
@@ -78,22 +88,23 @@ module _ (os : ℕ → Object) (rs qs : ℕ → Record) (j : ℕ) (one : 1 ≤ j
   pub aim-seen : (sliders : Bool) → aimOf (viewOf os rs j) (j - 1) sliders ≡ aimOf (viewOf os qs j) (j - 1) sliders
   aim-seen sliders = aim-same (viewOf os rs j) (viewOf os qs j) (j - 1) (j - 1) sliders refl (λ k b. view-back 3 k (omega arith) b)
 
-  pub speed-seen : (last : ℕ) (window : Float) (autopilot : Bool) → speedAtPlace os rs last j window autopilot ≡ speedAtPlace os qs last j window autopilot
-  speed-seen last window autopilot =
-      speed-same os os rs qs last last j j window autopilot
+  pub speed-seen : (last end : ℕ) → ltb j last ≡ ltb j end → (window : Float) (autopilot : Bool)
+      → speedAtPlace os rs last j window autopilot ≡ speedAtPlace os qs end j window autopilot
+  speed-seen last end has window autopilot =
+      speed-same os os rs qs last end j j window autopilot
       (same j (here-from j one) (here-to j))
       refl
       (λ h. ap (λ (r : Record). r .«travel_dist») (same (j - 1) (last-from j h) (back-to j 1 one)))
-      refl
+      has
       (λ h. next-delta)
       refl
 
-  pub rhythm-seen : (last : ℕ) (window : Float) → rhythmAtPlace os rs last j window ≡ rhythmAtPlace os qs last j window
-  rhythm-seen last window =
-      rhythm-same os os rs qs last last j j window
+  pub rhythm-seen : (last end : ℕ) → ltb j last ≡ ltb j end → (window : Float) → rhythmAtPlace os rs last j window ≡ rhythmAtPlace os qs end j window
+  rhythm-seen last end has window =
+      rhythm-same os os rs qs last end j j window
       refl
       (λ k b. ap (λ (r : Record). cellOf (baseOf (os (j - k))) r) (record-back 32 k (omega arith) b))
-      refl
+      has
       (λ h. next-delta)
 
   pub flashlight-seen : (e : FlashlightEvaluator) (repeats : ℕ) (hidden : Bool)
@@ -150,12 +161,10 @@ module _ (chart : List ℕ) (lay : Layout) (w : List Record) (t u : List Float) 
       (λ k b. part-view u chart lay j a k) (λ h. refl)
       ∙ flashlight-seen os (partAt u a) (inWindow w j) j one agrees e repeats hidden
 
-  pub speed-table : (last end : ℕ) → last ≡ end → (window : Float) (autopilot : Bool)
-      → speedAtPlace os (partAt u a) last j window autopilot ≡ speedAtPlace os (inWindow w j) end j window autopilot
-  speed-table last end e window autopilot =
-      ap (λ (l : ℕ). speedAtPlace os (partAt u a) l j window autopilot) e ∙ speed-seen os (partAt u a) (inWindow w j) j one agrees end window autopilot
+  pub speed-table : (last records : ℕ) → last ≡ lastOf j records → (window : Float) (autopilot : Bool)
+      → speedAtPlace os (partAt u a) last j window autopilot ≡ speedAtPlace os (inWindow w j) records j window autopilot
+  speed-table last records e window autopilot = speed-seen os (partAt u a) (inWindow w j) j one agrees last records (next-alike j last records e) window autopilot
 
-  pub rhythm-table : (last end : ℕ) → last ≡ end → (window : Float)
-      → rhythmAtPlace os (partAt u a) last j window ≡ rhythmAtPlace os (inWindow w j) end j window
-  rhythm-table last end e window =
-      ap (λ (l : ℕ). rhythmAtPlace os (partAt u a) l j window) e ∙ rhythm-seen os (partAt u a) (inWindow w j) j one agrees end window
+  pub rhythm-table : (last records : ℕ) → last ≡ lastOf j records → (window : Float)
+      → rhythmAtPlace os (partAt u a) last j window ≡ rhythmAtPlace os (inWindow w j) records j window
+  rhythm-table last records e window = rhythm-seen os (partAt u a) (inWindow w j) j one agrees last records (next-alike j last records e) window

@@ -10,7 +10,7 @@ use mathlib.Core.Logic.{inl, inr}
 use native.Mathlib.Nat.{not-suc-le-zero, le-of-suc-le-suc, eq-or-lt-of-le}
 use lib.ListN.{getD, replicate, set}
 use Rattle.object.specs.declared.OsuDifficultyObject.{OsuDifficultyObject as Record}
-use Rattle.sight.specs.Part.{firstPlace}
+use Rattle.records.specs.Part.{firstPlace}
 use Rattle.outer.specs.Records.{recordOf, slots, slotAt, windowOf}
 
 pub set-slot : {X : Type 0} (n : ℕ) (d r : X) (zs : List X) → set (replicate (suc n) d ++ zs) n r ≡ replicate n d ++ (r ∷ zs)

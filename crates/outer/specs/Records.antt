@@ -1,13 +1,12 @@
 -- Document 01, "outer entry takes the lent slice of records as the Rust does": the slice, the window that an evaluator at a place sees of it, and what stands past its end. Definitions only.
 use Prim.Native.Nat.{ℕ, zero, suc, _+_, _-_, _<_}
-use mathlib.Core.Bool.{false}
+use mathlib.Core.Bool.{false, cond}
 use mathlib.Core.List.{List, [], _∷_}
-use lib.Dec.{T}
+use lib.Dec.{T, ltb}
 use lib.ListN.{getD}
-use lib.Ieee.{Float, nan, binary32, binary64, ofBits, fits}
+use lib.Ieee.{nan, binary32, binary64, ofBits, fits}
 use Rattle.object.specs.declared.OsuDifficultyObject.{OsuDifficultyObject}
-use Rattle.sight.specs.Part.{firstPlace}
-use Rattle.evaluators.specs.declared.Values.{Values}
+use Rattle.records.specs.Part.{firstPlace}
 
 -- a record of zeros: what stands past the end of a slice
 abbrev pub noRecord : OsuDifficultyObject
@@ -76,6 +75,10 @@ slotAt w k = getD w k blank
 abbrev pub inWindow : List OsuDifficultyObject → ℕ → ℕ → OsuDifficultyObject
 inWindow w j p = slotAt w (p - firstPlace j)
 
+-- the last place of which an evaluator at place j sees the record: the next one where a slice of so many records has it
+abbrev pub lastOf : ℕ → ℕ → ℕ
+lastOf j records = cond (ltb j records) (j + 1) j
+
 -- the f32 fields of a record are f32, as those of each record in memory are
 pub record InF32 (r : OsuDifficultyObject) : Type 0 where
   pub x : T (fits binary32 (r .«lazy_end_x»))
@@ -83,7 +86,3 @@ pub record InF32 (r : OsuDifficultyObject) : Type 0 where
 
 abbrev pub InF32s : List OsuDifficultyObject → Type 0
 InF32s w = (k : ℕ) → k < 34 → InF32 (slotAt w k)
-
--- the five values of a place
-abbrev pub gatheredOf : Float → Float → Float → Float → Float → Values
-gatheredOf aim without speed rhythm flashlight = record { aim = aim; «aim_no_sliders» = without; speed = speed; rhythm = rhythm; flashlight = flashlight }

@@ -1,28 +1,20 @@
 // The evaluators' outer entries: each takes the lent slice of records as the Rust does (evaluators/*.rs), copies the records that count
-// into a window, and calls the covered evaluator on the window as a part of the table. Record i of the slice is that of place i + 1, and
-// past its end stand records of zeros; how many places there are the layout says.
+// into a window, and calls the covered evaluator on the window as a part of the table. Record i of the slice is that of place i + 1. There
+// is a next record where the slice has one; at any other place past its end stands a record of zeros.
 //
-// The borrow checker covers no function with a `&[OsuDifficultyObject]`: `nth`, `window`, the four entries and `values_of_array` are proved
-// by walks of their MIR. What they call takes numbers, structs and arrays by value, or lends slices of numbers, and is covered.
+// The borrow checker covers no function with a `&[OsuDifficultyObject]`: `nth`, `window` and the four entries are proved by walks of their
+// MIR. What they call takes numbers, structs and arrays by value, or lends slices of numbers, and is covered.
 ghost use mathlib.Core.Path.{_≡_};
-ghost use Prim.Native.Nat.{_-_, _≤_, _<_};
+ghost use Prim.Native.Nat.{_+_, _-_, _≤_, _<_};
 ghost use lib.ListN.{length, replicate};
-ghost use Rattle.osu_object.specs.Osu.{Ready, objectOf};
-ghost use Rattle.osu_object.specs.Base.{repeatsOf};
+ghost use Rattle.osu_object.specs.Osu.{Ready};
 ghost use Rattle.tables.specs.Parts.{fill};
 ghost use Rattle.records.specs.Rows.{rowOf};
-ghost use Rattle.sight.specs.Sight.{viewOf};
-ghost use Rattle.aim.specs.Aim.{aimOf};
-ghost use Rattle.speed.specs.Speed.{speedAtPlace};
-ghost use Rattle.rhythm.specs.Rhythm.{rhythmAtPlace};
-ghost use Rattle.flashlight.specs.Flashlight.{flashlightOf};
-ghost use Rattle.evaluators.specs.Values.{reachOf, rowOf as valueRow, valuesOf};
-ghost use Rattle.outer.specs.Records.{recordAt, recordOf, windowOf, slotAt, inWindow, InF32s, gatheredOf};
-use evaluators::Values;
+ghost use Rattle.outer.specs.Entries.{aimOn, speedOn, rhythmOn, flashlightOn, aimIn, speedIn, rhythmIn, flashlightIn};
+ghost use Rattle.outer.specs.Records.{recordAt, windowOf, slotAt, inWindow, lastOf, InF32s};
 use flashlight::FlashlightEvaluator;
 use object::OsuDifficultyObject;
 use objects::Layout;
-use opening::Settings;
 
 // Record i, or one of zeros past the end.
 pub fn nth(rs: &[OsuDifficultyObject], i: usize) -> OsuDifficultyObject
@@ -93,6 +85,14 @@ fn put_window(t: &mut [f64], w: [OsuDifficultyObject; 34])
     }
 }
 
+// The last place that the window of place j holds, of a slice with so many records: j has a next one where the slice has.
+fn last_place(j: usize, records: usize) -> usize
+    requires { ⌜ j < 65536 ⌝ }
+    ensures { λ r. ⌜ (r ≡ lastOf j records) × (j ≤ r) × (r ≤ j + 1) ⌝ }
+{
+    if j < records { j + 1 } else { j }
+}
+
 // The evaluators over the window of place j.
 fn aim_in(
     chart: &[u8],
@@ -102,11 +102,11 @@ fn aim_in(
     with_slider_travel_dist: bool,
 ) -> f64
     requires { ⌜ InF32s w × Ready (now chart) lay × (1 ≤ j) × (j < lay .n) ⌝ }
-    ensures { λ r. ⌜ r ≡ aimOf (viewOf (objectOf (now (chart .entry)) lay) (inWindow w j) j) (j - 1) «with_slider_travel_dist» ⌝ }
+    ensures { λ r. ⌜ r ≡ aimIn (now (chart .entry)) lay w j «with_slider_travel_dist» ⌝ }
 {
     let mut t = [0.0f64; 544];
     put_window(&mut t[..], w);
-    let first = sight::first_place(j);
+    let first = records::first_place(j);
     aim::evaluate_diff_of(&t[..], chart, lay, j - first, j, with_slider_travel_dist)
 }
 
@@ -115,17 +115,18 @@ fn speed_in(
     w: [OsuDifficultyObject; 34],
     lay: Layout,
     j: usize,
+    records: usize,
     hit_window: f64,
     autopilot: bool,
 ) -> f64
     requires { ⌜ InF32s w × Ready (now chart) lay × (1 ≤ j) × (j < lay .n) ⌝ }
-    ensures { λ r. ⌜ r ≡ speedAtPlace (objectOf (now (chart .entry)) lay) (inWindow w j) (reachOf (lay .n) j) j «hit_window» autopilot ⌝ }
+    ensures { λ r. ⌜ r ≡ speedIn (now (chart .entry)) lay w j records «hit_window» autopilot ⌝ }
 {
     let mut t = [0.0f64; 544];
     put_window(&mut t[..], w);
-    let first = sight::first_place(j);
-    let end = sight::end_place(j, lay.n);
-    speed::evaluate_diff_of(&t[..], first, end - 1, chart, lay, j, hit_window, autopilot)
+    let first = records::first_place(j);
+    let last = last_place(j, records);
+    speed::evaluate_diff_of(&t[..], first, last, chart, lay, j, hit_window, autopilot)
 }
 
 fn rhythm_in(
@@ -133,16 +134,17 @@ fn rhythm_in(
     w: [OsuDifficultyObject; 34],
     lay: Layout,
     j: usize,
+    records: usize,
     hit_window: f64,
 ) -> f64
     requires { ⌜ InF32s w × Ready (now chart) lay × (1 ≤ j) × (j < lay .n) ⌝ }
-    ensures { λ r. ⌜ r ≡ rhythmAtPlace (objectOf (now (chart .entry)) lay) (inWindow w j) (reachOf (lay .n) j) j «hit_window» ⌝ }
+    ensures { λ r. ⌜ r ≡ rhythmIn (now (chart .entry)) lay w j records «hit_window» ⌝ }
 {
     let mut t = [0.0f64; 544];
     put_window(&mut t[..], w);
-    let first = sight::first_place(j);
-    let end = sight::end_place(j, lay.n);
-    rhythm::evaluate_diff_of(&t[..], first, end - 1, chart, lay, j, hit_window)
+    let first = records::first_place(j);
+    let last = last_place(j, records);
+    rhythm::evaluate_diff_of(&t[..], first, last, chart, lay, j, hit_window)
 }
 
 fn flashlight_in(
@@ -154,11 +156,11 @@ fn flashlight_in(
     hidden: bool,
 ) -> f64
     requires { ⌜ InF32s w × Ready (now chart) lay × (1 ≤ j) × (j < lay .n) ⌝ }
-    ensures { λ r. ⌜ r ≡ flashlightOf evaluator (viewOf (objectOf (now (chart .entry)) lay) (inWindow w j) j) (j - 1) (repeatsOf (objectOf (now (chart .entry)) lay j)) hidden ⌝ }
+    ensures { λ r. ⌜ r ≡ flashlightIn evaluator (now (chart .entry)) lay w j hidden ⌝ }
 {
     let mut t = [0.0f64; 544];
     put_window(&mut t[..], w);
-    let first = sight::first_place(j);
+    let first = records::first_place(j);
     evaluator.evaluate_diff_of(&t[..], chart, lay, j - first, j, hidden)
 }
 
@@ -171,7 +173,7 @@ pub fn evaluate_aim(
     with_slider_travel_dist: bool,
 ) -> f64
     requires { ⌜ Ready (now chart) lay × (1 ≤ j) × (j < lay .n) ⌝ }
-    ensures { λ r. ⌜ r ≡ aimOf (viewOf (objectOf (now (chart .entry)) lay) (recordOf (now («diff_objects» .entry))) j) (j - 1) «with_slider_travel_dist» ⌝ }
+    ensures { λ r. ⌜ r ≡ aimOn (now (chart .entry)) lay (now («diff_objects» .entry)) j «with_slider_travel_dist» ⌝ }
 {
     aim_in(
         chart,
@@ -192,16 +194,11 @@ pub fn evaluate_speed(
     autopilot: bool,
 ) -> f64
     requires { ⌜ Ready (now chart) lay × (1 ≤ j) × (j < lay .n) ⌝ }
-    ensures { λ r. ⌜ r ≡ speedAtPlace (objectOf (now (chart .entry)) lay) (recordOf (now («diff_objects» .entry))) (reachOf (lay .n) j) j «hit_window» autopilot ⌝ }
+    ensures { λ r. ⌜ r ≡ speedOn (now (chart .entry)) lay (now («diff_objects» .entry)) j «hit_window» autopilot ⌝ }
 {
-    speed_in(
-        chart,
-        window(diff_objects, j),
-        lay,
-        j,
-        hit_window,
-        autopilot,
-    )
+    let w = window(diff_objects, j);
+    let records = diff_objects.len();
+    speed_in(chart, w, lay, j, records, hit_window, autopilot)
 }
 
 // evaluators/rhythm.rs, `evaluate_diff_of`.
@@ -213,9 +210,11 @@ pub fn evaluate_rhythm(
     hit_window: f64,
 ) -> f64
     requires { ⌜ Ready (now chart) lay × (1 ≤ j) × (j < lay .n) ⌝ }
-    ensures { λ r. ⌜ r ≡ rhythmAtPlace (objectOf (now (chart .entry)) lay) (recordOf (now («diff_objects» .entry))) (reachOf (lay .n) j) j «hit_window» ⌝ }
+    ensures { λ r. ⌜ r ≡ rhythmOn (now (chart .entry)) lay (now («diff_objects» .entry)) j «hit_window» ⌝ }
 {
-    rhythm_in(chart, window(diff_objects, j), lay, j, hit_window)
+    let w = window(diff_objects, j);
+    let records = diff_objects.len();
+    rhythm_in(chart, w, lay, j, records, hit_window)
 }
 
 // evaluators/flashlight.rs, `evaluate_diff_of`.
@@ -228,41 +227,7 @@ pub fn evaluate_flashlight(
     hidden: bool,
 ) -> f64
     requires { ⌜ Ready (now chart) lay × (1 ≤ j) × (j < lay .n) ⌝ }
-    ensures { λ r. ⌜ r ≡ flashlightOf evaluator (viewOf (objectOf (now (chart .entry)) lay) (recordOf (now («diff_objects» .entry))) j) (j - 1) (repeatsOf (objectOf (now (chart .entry)) lay j)) hidden ⌝ }
+    ensures { λ r. ⌜ r ≡ flashlightOn evaluator (now (chart .entry)) lay (now («diff_objects» .entry)) j hidden ⌝ }
 {
     flashlight_in(chart, window(diff_objects, j), lay, j, evaluator, hidden)
-}
-
-// The five values of a place.
-fn gathered(aim: f64, aim_no_sliders: f64, speed: f64, rhythm: f64, flashlight: f64) -> Values
-    ensures { λ r. ⌜ r ≡ gatheredOf aim «aim_no_sliders» speed rhythm flashlight ⌝ }
-{
-    Values {
-        aim,
-        aim_no_sliders,
-        speed,
-        rhythm,
-        flashlight,
-    }
-}
-
-// The five values of place j by the outer entries, over records by value: it lends its own array, so its callers need no walk.
-pub fn values_of_array(
-    chart: &[u8],
-    records: [OsuDifficultyObject; 64],
-    lay: Layout,
-    set: Settings,
-    j: usize,
-) -> Values
-    requires { ⌜ Ready (now chart) lay × (1 ≤ j) × (j < lay .n) ⌝ }
-    ensures { λ r. ⌜ valueRow r ≡ valuesOf set (reachOf (lay .n) j) (objectOf (now (chart .entry)) lay) (recordOf records) j ⌝ }
-{
-    let light = flashlight::evaluator_of(set);
-    let rs = &records[..];
-    let aim = evaluate_aim(rs, chart, lay, j, true);
-    let aim_no_sliders = evaluate_aim(rs, chart, lay, j, false);
-    let speed = evaluate_speed(rs, chart, lay, j, set.hit_window, set.autopilot);
-    let rhythm = evaluate_rhythm(rs, chart, lay, j, set.hit_window);
-    let flashlight = evaluate_flashlight(rs, chart, lay, j, light, set.hidden);
-    gathered(aim, aim_no_sliders, speed, rhythm, flashlight)
 }

@@ -1,9 +1,15 @@
-// Lists the values of charts as values_main does, by the outer entries: the records of a chart stand in an array of structs, which is lent
-// to them as a slice. Standard input has for each chart its length (u32, little-endian) and its bytes. Of a chart that is opened the number
-// of objects is printed, and for each place from 1 on its five values as bits; of any other, and of one with more than 65 objects, the refusal.
-ghost use Prim.Native.Nat.{_≤_};
-ghost use lib.ListN.{length};
-ghost use Rattle.osu_object.specs.Osu.{Ready};
+// Lists the values of charts as values_main does, by the outer entries: the records of a chart stand in an array of structs, of which its
+// N - 1 records are lent to them as a slice. Standard input has for each chart its length (u32, little-endian) and its bytes. Of a chart
+// that is opened the number of objects is printed, and for each place from 1 on its five values as bits; of any other, and of one with more
+// than 65 objects, the refusal.
+ghost use mathlib.Core.Path.{_≡_};
+ghost use Prim.Native.Nat.{_≤_, _<_};
+ghost use lib.ListN.{length, take};
+ghost use Rattle.osu_object.specs.Osu.{Ready, objectOf};
+ghost use Rattle.evaluators.specs.Values.{rowOf, valuesOf};
+ghost use Rattle.outer.specs.Records.{recordOf};
+ghost use Rattle.outer_main.specs.Values.{gatheredOf};
+use evaluators::Values;
 use object::OsuDifficultyObject;
 use objects::Layout;
 use opening::Settings;
@@ -26,6 +32,41 @@ fn records_of(t: &[f64], n: usize) -> [OsuDifficultyObject; 64]
     rs
 }
 
+// The five values of a place.
+fn gathered(aim: f64, aim_no_sliders: f64, speed: f64, rhythm: f64, flashlight: f64) -> Values
+    ensures { λ r. ⌜ r ≡ gatheredOf aim «aim_no_sliders» speed rhythm flashlight ⌝ }
+{
+    Values {
+        aim,
+        aim_no_sliders,
+        speed,
+        rhythm,
+        flashlight,
+    }
+}
+
+// The five values of place j by the outer entries, over the first m of the records: it lends its own array, so its callers need no walk.
+fn values_of_array(
+    chart: &[u8],
+    records: [OsuDifficultyObject; 64],
+    m: usize,
+    lay: Layout,
+    set: Settings,
+    j: usize,
+) -> Values
+    requires { ⌜ Ready (now chart) lay × (1 ≤ j) × (j < lay .n) × (m ≤ 64) ⌝ }
+    ensures { λ r. ⌜ rowOf r ≡ valuesOf set m (objectOf (now (chart .entry)) lay) (recordOf (take m records)) j ⌝ }
+{
+    let light = flashlight::evaluator_of(set);
+    let rs = &records[..m];
+    let aim = outer::evaluate_aim(rs, chart, lay, j, true);
+    let aim_no_sliders = outer::evaluate_aim(rs, chart, lay, j, false);
+    let speed = outer::evaluate_speed(rs, chart, lay, j, set.hit_window, set.autopilot);
+    let rhythm = outer::evaluate_rhythm(rs, chart, lay, j, set.hit_window);
+    let flashlight = outer::evaluate_flashlight(rs, chart, lay, j, light, set.hidden);
+    gathered(aim, aim_no_sliders, speed, rhythm, flashlight)
+}
+
 // The number of objects, and the values of their places.
 fn show_values(
     out: &mut [u8],
@@ -34,12 +75,12 @@ fn show_values(
     lay: Layout,
     set: Settings,
 )
-    requires { ⌜ Ready (now chart) lay ⌝ }
+    requires { ⌜ Ready (now chart) lay × (lay .n ≤ 65) ⌝ }
 {
     let mut end = lines::put_count(out, 0, lay.n);
     let mut j = 1;
     while j < lay.n {
-        let values = outer::values_of_array(chart, rs, lay, set, j);
+        let values = values_of_array(chart, rs, lay.n - 1, lay, set, j);
         end = lines::put_values(out, end, j, values);
         j += 1;
     }

@@ -1,2 +1,4 @@
 pub mod Rows
 pub mod Fill
+pub mod Part
+pub mod Sight

@@ -1,4 +1,4 @@
-// The table of records: sixteen numbers an entry, in one slice.
+// The table of records: sixteen numbers an entry, in one slice; and what an evaluator sees of it and of the base objects.
 ghost use mathlib.Core.Path.{_≡_};
 ghost use Prim.Native.Nat.{_+_, _*_, _-_, _≤_, _<_};
 ghost use lib.ListN.{length};
@@ -6,10 +6,13 @@ ghost use Rattle.osu_object.specs.Osu.{Ready, objectOf};
 ghost use Rattle.object.specs.Record.{placedOf};
 ghost use Rattle.records.specs.Rows.{recordAt, putRecord, numberOf};
 ghost use Rattle.records.specs.Fill.{filledRange, filled};
+ghost use Rattle.records.specs.Part.{firstPlace, endPlace};
+ghost use Rattle.records.specs.Sight.{sightOf};
 use object::OsuDifficultyObject;
 use object::Placed;
 use objects::Layout;
 use opening::Settings;
+use osu_object::BaseObject;
 
 // Entry j, whatever it holds: the f32 are rounded, and a flag is any number but zero.
 pub fn record_at(t: &[f64], j: usize) -> OsuDifficultyObject
@@ -106,4 +109,36 @@ pub fn fill(chart: &[u8], lay: Layout, set: Settings, t: &mut [f64])
     ensures { λ _. ⌜ now (t .exit) ≡ filled (now (chart .entry)) lay set (now (t .entry)) ⌝ }
 {
     fill_range(chart, lay, set, 1, lay.n, t);
+}
+
+// A record and its base object.
+pub struct Sight {
+    pub diff: OsuDifficultyObject,
+    pub base: BaseObject,
+}
+
+// The record at place i of a part of the table, with the base object at its place j of the chart.
+pub fn sight_at(t: &[f64], chart: &[u8], lay: Layout, i: usize, j: usize) -> Sight
+    requires { ⌜ Ready (now chart) lay × (j < lay .n) × (i < 65536) × (16 * i + 16 ≤ length (now t)) ⌝ }
+    ensures { λ r. ⌜ r ≡ sightOf (recordAt (now (t .entry)) i) (objectOf (now (chart .entry)) lay j) ⌝ }
+{
+    Sight {
+        diff: record_at(t, i),
+        base: osu_object::base_at(chart, lay, j),
+    }
+}
+
+// The first place of the part that the evaluators at place j are lent: 32 places before.
+pub fn first_place(j: usize) -> usize
+    ensures { λ r. ⌜ r ≡ firstPlace j ⌝ }
+{
+    if j < 33 { 1 } else { j - 32 }
+}
+
+// The end of that part, of a table of n entries: after the place behind j.
+pub fn end_place(j: usize, n: usize) -> usize
+    requires { ⌜ (j < n) × (n ≤ 16384) ⌝ }
+    ensures { λ r. ⌜ r ≡ endPlace j n ⌝ }
+{
+    if j + 2 < n { j + 2 } else { n }
 }

@@ -14,8 +14,8 @@ use Rattle.osu_object.specs.Osu.{Object}
 use Rattle.osu_object.specs.Base.{baseOf}
 use Rattle.object.specs.declared.OsuDifficultyObject.{OsuDifficultyObject}
 use Rattle.records.specs.Rows.{recordAt}
-use Rattle.sight.specs.Part.{firstPlace, endPlace, partAt, Covers}
-use Rattle.sight.proofs.Parts.{partOf, part-at, last-place}
+use Rattle.records.specs.Part.{firstPlace, endPlace, partAt, Covers}
+use Rattle.records.proofs.Parts.{partOf, part-at, last-place}
 use Rattle.rhythm.specs.Step.{Walk}
 use Rattle.rhythm.specs.Constants.{historyTimeMax}
 use Rattle.rhythm.specs.Rhythm.{View, runOf, nearOf, startFrom, startOf, rhythmOf, cellOf, cellsOf, countBefore, rhythmAtPlace}

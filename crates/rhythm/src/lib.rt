@@ -8,7 +8,7 @@ ghost use Rattle.objects.specs.Objects.{Holds, fieldsOf};
 ghost use Rattle.osu_object.specs.Osu.{Ready, objectOf};
 ghost use Rattle.osu_object.specs.Base.{baseOf};
 ghost use Rattle.records.specs.Rows.{recordAt};
-ghost use Rattle.sight.specs.Part.{Covers, partAt};
+ghost use Rattle.records.specs.Part.{Covers, partAt};
 ghost use Rattle.rhythm.specs.Island.{maxZ, distZ, newIsland, newWithDelta, settledOf, addDelta, similarOf, defaultOf, sameOf, IslandOk};
 ghost use Rattle.rhythm.specs.Counts.{entriesOf, noCount, findFrom, placeOf, bumpedOf, entryOf, CountOk, CountsOk};
 ghost use Rattle.rhythm.specs.Step.{scaledOf, effectiveOf, decayOf, fasterTwice, switchRatio, factorOf, lastRatio, progressedOf, beganOf, switchedOf};
@@ -696,8 +696,8 @@ pub fn evaluate_place(t: &[f64], chart: &[u8], lay: Layout, j: usize, hit_window
     requires { ⌜ Ready (now chart) lay × (1 ≤ j) × (j < lay .n) × (16 * lay .n ≤ length (now t)) ⌝ }
     ensures { λ r. ⌜ r ≡ rhythmAtPlace (objectOf (now (chart .entry)) lay) (recordAt (now (t .entry))) (min (j + 1) (lay .n - 1)) j «hit_window» ⌝ }
 {
-    let first = sight::first_place(j);
-    let end = sight::end_place(j, lay.n);
+    let first = records::first_place(j);
+    let end = records::end_place(j, lay.n);
     let from = 16 * first;
     let to = 16 * end;
     evaluate_diff_of(&t[from..to], first, end - 1, chart, lay, j, hit_window)

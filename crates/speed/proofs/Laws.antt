@@ -13,8 +13,8 @@ use Rattle.osu_object.specs.Base.{baseOf}
 use Rattle.object.specs.Reading.{tapnessOf, windowOf, doubletapness}
 use Rattle.object.specs.declared.OsuDifficultyObject.{OsuDifficultyObject}
 use Rattle.records.specs.Rows.{recordAt}
-use Rattle.sight.specs.Part.{firstPlace, endPlace, partAt}
-use Rattle.sight.proofs.Parts.{partOf, part-at, last-place}
+use Rattle.records.specs.Part.{firstPlace, endPlace, partAt}
+use Rattle.records.proofs.Parts.{partOf, part-at, last-place}
 use Rattle.speed.specs.Speed.{speedOf, travelBefore, speedAtPlace}
 
 -- ---- what is read

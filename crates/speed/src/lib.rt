@@ -4,7 +4,7 @@ ghost use Prim.Native.Nat.{_+_, _*_, _-_, min, _≤_, _<_};
 ghost use lib.ListN.{length};
 ghost use Rattle.records.specs.Rows.{recordAt};
 ghost use Rattle.osu_object.specs.Osu.{Ready, objectOf};
-ghost use Rattle.sight.specs.Part.{Covers, partAt};
+ghost use Rattle.records.specs.Part.{Covers, partAt};
 ghost use Rattle.speed.specs.Speed.{strainTime, speedBonus, distBonus, speedOf, travelBefore, speedAtPlace};
 use object::OsuDifficultyObject;
 use objects::Layout;
@@ -142,8 +142,8 @@ pub fn evaluate_place(
     requires { ⌜ Ready (now chart) lay × (1 ≤ j) × (j < lay .n) × (16 * lay .n ≤ length (now t)) ⌝ }
     ensures { λ r. ⌜ r ≡ speedAtPlace (objectOf (now (chart .entry)) lay) (recordAt (now (t .entry))) (min (j + 1) (lay .n - 1)) j «hit_window» autopilot ⌝ }
 {
-    let first = sight::first_place(j);
-    let end = sight::end_place(j, lay.n);
+    let first = records::first_place(j);
+    let end = records::end_place(j, lay.n);
     let from = 16 * first;
     let to = 16 * end;
     evaluate_diff_of(

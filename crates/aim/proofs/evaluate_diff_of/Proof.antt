@@ -1,6 +1,6 @@
 -- `aim::evaluate_diff_of` meets its contract. Assumes nothing.
 use Rattle.aim.proofs.Value.{aim-combine}
-use Rattle.sight.specs.Sight.{viewAt}
+use Rattle.records.specs.Sight.{viewAt}
 use denote.Ref.{now}
 use mathlib.Core.Path.{_∙_}
 use borrow.Author.Needs.{needs}

@@ -5,7 +5,7 @@ use Prim.Native.Nat.{_-_}
 use Rattle.osu_object.specs.Osu.{objectOf}
 use Rattle.osu_object.specs.Base.{repeatsOf}
 use Rattle.records.specs.Rows.{recordAt}
-use Rattle.sight.specs.Sight.{viewOf}
+use Rattle.records.specs.Sight.{viewOf}
 use Rattle.flashlight.specs.Flashlight.{flashlightOf}
 use Rattle.evaluators.specs.Values.{rowOf, valuesOf}
 use borrow.Author.Needs.{needs}

@@ -34,10 +34,10 @@ use denote.Triple.Statement.{Triple}
 use denote.Triple.Table.{entered, cited}
 use denote.Triple.Walked.{says, needs, Stays, stay-none, stay-none-slice, walkOf, goes-none, goes-none-slice, Walks, ends-at, walked, walk-meets}
 use denote.Exit.{yes}
-use Rattle.walk.proofs.Calls.{Of, calls-with, held-asks}
+use Rattle.outer.proofs.Calls.{Of, calls-with, held-asks}
 use Rattle.osu_object.specs.Osu.{Object, Ready, objectOf}
 use Rattle.osu_object.specs.Base.{repeatsOf}
-use Rattle.sight.specs.Sight.{viewOf}
+use Rattle.records.specs.Sight.{viewOf}
 use Rattle.flashlight.specs.Flashlight.{flashlightOf}
 use Rattle.object.specs.declared.OsuDifficultyObject.{OsuDifficultyObject as Record}
 use Rattle.outer.specs.Records.{recordOf, windowOf, inWindow}

@@ -39,8 +39,8 @@ use denote.Triple.Spec.{Meets, tripleOf}
 use denote.Triple.Table.{entered}
 use denote.Triple.Walked.{says, Stays, stay-none, stay-none-slice, walkOf, goes-none, goes-none-slice, Walks, ends-at, walked, walk-meets}
 use denote.Exit.{yes}
-use Rattle.walk.proofs.Calls.{Held, held-had, held-gives}
-use Rattle.walk.proofs.Elements.{opens-held, closes-held}
+use Rattle.outer.proofs.Calls.{Held, held-had, held-gives}
+use Rattle.outer.proofs.Elements.{opens-held, closes-held}
 use Rattle.outer.specs.Records.{noRecord, recordAt}
 use Rattle.object.specs.declared.OsuDifficultyObject.{OsuDifficultyObject as Record}
 use Rattle.object.proofs.OsuDifficultyObject as T

@@ -2,7 +2,6 @@
 use mathlib.Core.Path.{_∙_}
 use native.Mathlib.Omega.{arith}
 use denote.Ref.{now}
-use Rattle.sight.proofs.Parts.{last-place}
 use Rattle.outer.proofs.Seen.{speed-table}
 use borrow.Author.Needs.{needs}
 use Rattle.outer.proofs.speed_in.Statement.{statement}
@@ -17,14 +16,11 @@ put-window-requires c κs = search needs
 first-place-requires : tie.Need-first-place-requires
 first-place-requires c κs = search needs
 
-end-place-requires : tie.Need-end-place-requires
-end-place-requires c κs = search needs
+last-place-requires : tie.Need-last-place-requires
+last-place-requires c κs = search needs
 
 slice-aggregate-evaluate-diff-of : tie.Need-slice-aggregate-evaluate-diff-of
 slice-aggregate-evaluate-diff-of c = search needs
-
-sub-evaluate-diff-of : tie.Need-sub-evaluate-diff-of
-sub-evaluate-diff-of c = search needs
 
 evaluate-diff-of-requires : tie.Need-evaluate-diff-of-requires
 evaluate-diff-of-requires c κs = search needs
@@ -33,7 +29,7 @@ returns : tie.Need-returns
 returns c =
     let a = c .before .before .before .before .before .before .before .before .args in
     c .evaluate-diff-of .ensures
-    ∙ speed-table (now (a .chart)) (a .lay) (a .w) _ _ (a .j) (c .before .before .before .first-place .result) (c .before .before .before .before .before .before .before .before .pre .2) (c .before .before .before .first-place .ensures) (omega arith) (c .before .before .before .before .before .before .before .before .pre .0) (c .before .before .before .before .before .put-window .ensures) _ _ (last-place (a .j) (a .lay .n) (c .before .before .end-place .result) (c .before .before .before .before .before .before .before .before .pre .3) (c .before .before .end-place .ensures)) (a .hit-window) (a .autopilot)
+    ∙ speed-table (now (a .chart)) (a .lay) (a .w) _ _ (a .j) (c .before .before .before .first-place .result) (c .before .before .before .before .before .before .before .before .pre .2) (c .before .before .before .first-place .ensures) (omega arith) (c .before .before .before .before .before .before .before .before .pre .0) (c .before .before .before .before .before .put-window .ensures) _ _ (c .before .before .last-place .ensures .0) (a .hit-window) (a .autopilot)
 
 pub speed-in-spec : {M : Type 1} → statement M
 speed-in-spec =
@@ -42,8 +38,7 @@ speed-in-spec =
     slice-aggregate-put-window
     put-window-requires
     first-place-requires
-    end-place-requires
+    last-place-requires
     slice-aggregate-evaluate-diff-of
-    sub-evaluate-diff-of
     evaluate-diff-of-requires
     returns)

@@ -41,16 +41,16 @@ use denote.Triple.Statement.{Triple}
 use denote.Triple.Table.{entered, cited}
 use denote.Triple.Walked.{says, Stays, stay-none, stay-none-slice, walkOf, goes-none, goes-none-slice, Walks, ends-at, walked, walk-meets}
 use denote.Exit.{yes}
-use Rattle.sight.specs.Part.{firstPlace}
+use Rattle.records.specs.Part.{firstPlace}
 use Rattle.outer.specs.Records.{noRecord, recordAt, recordOf, slots, windowOf}
 use Rattle.object.specs.declared.OsuDifficultyObject.{OsuDifficultyObject as Record}
 use Rattle.object.proofs.OsuDifficultyObject.Laws as T′
-use Rattle.walk.proofs.Calls.{Of, calls-plain, Held, held-had, held-gives}
-use Rattle.walk.proofs.Lends.{opens-elem, closes-elem}
+use Rattle.outer.proofs.Calls.{Of, calls-plain, Held, held-had, held-gives}
+use Rattle.outer.proofs.Lends.{opens-elem, closes-elem}
 use Rattle.outer.proofs.Neighbours.{KnownNth, nth-at}
 use Rattle.outer.proofs.Rows.{R, vals, makes, tells, typed, AR, avals, amach, atells, arr, atyped}
 use Rattle.outer.proofs.Slots.{set-slot, with-none}
-use Rattle.walk.proofs.Tests.{ltb-yes}
+use Rattle.outer.proofs.Tests.{ltb-yes}
 use Rattle.outer.proofs.nth.Symbol as nth-def
 use Rattle.outer.proofs.nth.Symbol.{name as #outer·nth}
 use Rattle.outer.proofs.nth as nth

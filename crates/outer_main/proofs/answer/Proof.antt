@@ -33,7 +33,9 @@ records-of-requires c κs =
     (f .few, search needs)
 
 show-values-requires : tie.Need-show-values-requires
-show-values-requires c κs = fits _ 65 _ (c .before .before .before .before .before .before .before .before .before .before .before .check .ensures) (c .before .before .before .before .before .before .before .before .before .enum-told .given .1) _ (c .before .before .before .before .before .before .before .before .layout-of .ensures) .ready
+show-values-requires c κs =
+    let f = fits _ 65 _ (c .before .before .before .before .before .before .before .before .before .before .before .check .ensures) (c .before .before .before .before .before .before .before .before .before .enum-told .given .1) _ (c .before .before .before .before .before .before .before .before .layout-of .ensures) in
+    (f .ready, f .few)
 
 same-length : tie.Need-same-length
 same-length c = search needs

@@ -18,6 +18,9 @@ put-count-requires c κs = search needs
 loop-holds : tie.Need-loop-holds Inv-loop μ-loop
 loop-holds c = search needs
 
+sub-values-of-array : tie.Need-sub-values-of-array Inv-loop μ-loop
+sub-values-of-array c = search needs
+
 values-of-array-requires : tie.Need-values-of-array-requires Inv-loop μ-loop
 values-of-array-requires c κs = search needs
 
@@ -50,6 +53,7 @@ show-values-spec =
     μ-loop
     put-count-requires
     loop-holds
+    sub-values-of-array
     values-of-array-requires
     put-values-requires
     add-j

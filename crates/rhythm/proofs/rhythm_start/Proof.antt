@@ -5,7 +5,7 @@ use native.Mathlib.Nat.{sub-zero}
 use denote.Ref.{now}
 use borrow.Author.Needs.{needs}
 use Rattle.osu_object.specs.Osu.{objectOf}
-use Rattle.sight.specs.Part.{partAt}
+use Rattle.records.specs.Part.{partAt}
 use Rattle.rhythm.specs.Rhythm.{cellsOf, startFrom, startOf}
 use Rattle.rhythm.proofs.History.{near-is, start-more, start-stop, start-done, cell-here}
 use Rattle.rhythm.proofs.rhythm_start.Statement.{statement}

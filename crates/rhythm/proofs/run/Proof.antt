@@ -4,7 +4,7 @@ use mathlib.Core.Path.{_≡_, sym, ap, subst, _∙_}
 use native.Mathlib.Omega.{arith}
 use denote.Ref.{now}
 use Rattle.osu_object.specs.Osu.{objectOf}
-use Rattle.sight.specs.Part.{partAt}
+use Rattle.records.specs.Part.{partAt}
 use Rattle.rhythm.specs.Step.{Walk, walkOf, freshWalk, Good}
 use Rattle.rhythm.specs.Rhythm.{cellsOf, runOf}
 use Rattle.rhythm.proofs.Good.{good-mono, good-fresh, good-step}

@@ -3,8 +3,8 @@ use Prim.Native.Nat.{_≤_, _-_}
 use mathlib.Core.Path.{_≡_, ap, _∙_}
 use denote.Ref.{now}
 use borrow.Author.Needs.{needs}
-use Rattle.sight.specs.Sight.{viewAt}
-use Rattle.sight.specs.declared.Sight.{Sight}
+use Rattle.records.specs.Sight.{viewAt}
+use Rattle.records.specs.declared.Sight.{Sight}
 use Rattle.flashlight.specs.Flashlight.{turnsOf}
 use Rattle.flashlight.proofs.Walk.{turn, last-first, turns-none, turns-end}
 use Rattle.flashlight.proofs.FlashlightEvaluator.walk.Statement.{statement}

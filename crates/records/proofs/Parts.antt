@@ -11,10 +11,10 @@ use borrow.Author.Tests.{lt-ltb, le-ltb, ltb-true, ltb-false}
 use Rattle.objects.specs.declared.Layout.{Layout}
 use Rattle.osu_object.specs.Osu.{objectOf}
 use Rattle.object.specs.declared.OsuDifficultyObject.{OsuDifficultyObject}
 use Rattle.records.specs.Rows.{recordAt}
 use Rattle.records.proofs.Laws.{record-part}
-use Rattle.sight.specs.Part.{firstPlace, endPlace, partAt}
-use Rattle.sight.specs.Sight.{sightOf, viewOf, viewAt}
+use Rattle.records.specs.Part.{firstPlace, endPlace, partAt}
+use Rattle.records.specs.Sight.{sightOf, viewOf, viewAt}
 
 -- two tests agree where what they test does
 pub ltb-iff : (x y u v : ℕ) → (u < v → x < y) → (v ≤ u → y ≤ x) → ltb x y ≡ ltb u v

@@ -1,7 +1,7 @@
--- `sight::sight_at` meets its contract. Assumes nothing.
+-- `records::sight_at` meets its contract. Assumes nothing.
 use borrow.Author.Needs.{needs}
-use Rattle.sight.proofs.sight_at.Statement.{statement}
-use Rattle.sight.proofs.sight_at.Tie as tie
+use Rattle.records.proofs.sight_at.Statement.{statement}
+use Rattle.records.proofs.sight_at.Tie as tie
 
 record-at-requires : tie.Need-record-at-requires
 record-at-requires c κs = search needs

@@ -6,8 +6,8 @@ use Rattle.objects.specs.declared.Layout.{Layout}
 use Rattle.osu_object.specs.Osu.{Object, objectOf}
 use Rattle.osu_object.specs.Base.{baseOf}
 use Rattle.object.specs.declared.OsuDifficultyObject.{OsuDifficultyObject}
 use Rattle.records.specs.Rows.{recordAt}
-use Rattle.sight.specs.declared.Sight.{Sight}
+use Rattle.records.specs.declared.Sight.{Sight}
 
 abbrev pub sightOf : OsuDifficultyObject → Object → Sight
 sightOf r o = record { diff = r; base = baseOf o }
