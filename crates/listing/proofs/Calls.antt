@@ -32,12 +32,12 @@ use Rattle.editor.specs.declared.ValuesAnswer.the-variants as OfValues
 use Rattle.editor.specs.declared.TotalsAnswer.the-variants as OfTotals
 use Rattle.editor.proofs.Theorem.{laws}
 use Rattle.lines.specs.Lines.{refusalText}
-use Rattle.listing.specs.List.{limit, metText, afreshText, chartText, Filled, Room}
+use Rattle.listing.specs.List as Listed
+use Rattle.listing.specs.List.{limit, mostListed, metText, afreshText, chartText, totalsAfresh, Filled, Tables}
 
 -- ---- Opening
 
--- a chart within the limit that opens has at most 583 objects
-pub few-objects : (b : List ℕ) → firstOf (chartConditions rules b) ≡ none → length b ≤ limit → layoutOf b .n ≤ 583
+pub few-objects : (b : List ℕ) → firstOf (chartConditions rules b) ≡ none → length b ≤ limit → layoutOf b .n ≤ mostListed
 few-objects b o h = omega (arith, laws .shape b (c1-met rules b o))
 
 first-some : (xs ys : List (Option Met)) (m : Met) → firstOf xs ≡ some m → firstOf (xs ++ ys) ≡ some m
@@ -46,7 +46,7 @@ first-some [] ys m e = no-some (sym e)
 first-some (none ∷ xs) ys m e = first-some xs ys m e
 first-some (some n ∷ xs) ys m e = e
 
-module _ (b : List ℕ) (rs vs : List Float) (within : length b ≤ limit) (r : 9344 ≤ length rs) (v : 2920 ≤ length vs) where
+module _ (b : List ℕ) (rs vs : List Float) (within : length b ≤ limit) (room : Tables (length rs) (length vs)) where
   -- so condition 7 is never met
   opening-is : opening rules (length rs) (length vs) b ≡ firstOf (chartConditions rules b)
   unfolding opening
@@ -55,7 +55,7 @@ module _ (b : List ℕ) (rs vs : List Float) (within : length b ≤ limit) (r : 
       go : (q : Option Met) → firstOf (chartConditions rules b) ≡ q → opening rules (length rs) (length vs) b ≡ q
       go none e =
           let n = few-objects b e within in
-          opening-none rules (length rs) (length vs) b e (omega arith) (omega arith)
+          opening-none rules (length rs) (length vs) b e (omega (arith, room .records-room)) (omega (arith, room .values-room))
       go (some m) e = first-some (chartConditions rules b) _ m e
 
   pub refused-text : (x : Refusal) (a : Verdict) → a ≡ Refused x → metBy a ≡ openOutcome rules b rs vs .0 → refusalText (numberOf x) (placeOf x) ≡ chartText b
@@ -72,10 +72,10 @@ module _ (b : List ℕ) (rs vs : List Float) (within : length b ≤ limit) (r : 
     accepted-text = ap (λ (q : Option Met). unless q metText (afreshText b)) (sym opens)
 
     records-fit : 16 * layoutOf b .n ≤ length rs
-    records-fit = let n = few-objects b opens within in omega arith
+    records-fit = let n = few-objects b opens within in omega (arith, room .records-room)
 
     values-fit : 5 * layoutOf b .n ≤ length vs
-    values-fit = let n = few-objects b opens within in omega arith
+    values-fit = let n = few-objects b opens within in omega (arith, room .values-room)
 
     made : List Float
     made = openValues rules (settingsOf b) b (openRecords rules (settingsOf b) b rs) vs
@@ -127,7 +127,7 @@ module _ (b : List ℕ) (vs : List Float) (f : Filled b vs) where
         let z : _≡_ {A = ℕ} 0 1 = cc in
         omega arith
 
-  module _ (x : Scratch) (room : Room 9344 2920 (length (x .aim)) (length (x .aimNoSliders)) (length (x .speed)) (length (x .flashlight))) where
+  module _ (x : Scratch) (room : Listed.Scratch (length (x .aim)) (length (x .aimNoSliders)) (length (x .speed)) (length (x .flashlight))) where
     totals-not-refused : refusal rules (totalsWith x) 0 (length vs) b ≡ none
     unfolding totalsWith
     totals-not-refused =
@@ -138,9 +138,11 @@ module _ (b : List ℕ) (vs : List Float) (f : Filled b vs) where
     unfolding totalsOutcome outcome execute unless totalsWith
     summing = ap (λ (q : Option Met). unless q (refuse b [] vs) (execute rules (totalsWith x) b [] vs) .answer) totals-not-refused
 
-    pub totals-are : (t : Skills) (a : TotalsAnswer) → a ≡ OfTotals.Totals t → totalsAnswer a ≡ totalsOutcome rules x b vs .0 .answer
-        → t ≡ totalsFrom rules (settingsOf b) b vs
-    totals-are t a g e = let q : totalsAre t ≡ totalsAre (totalsFrom rules (settingsOf b) b vs) = ap totalsAnswer (sym g) ∙ (e ∙ summing) in cc
+    pub totals-are : (t : Skills) (a : TotalsAnswer) → a ≡ OfTotals.Totals t → totalsAnswer a ≡ totalsOutcome rules x b vs .0 .answer → t ≡ totalsAfresh b
+    totals-are t a g e =
+        let q : totalsAre t ≡ totalsAre (totalsFrom rules (settingsOf b) b vs) = ap totalsAnswer (sym g) ∙ (e ∙ summing) in
+        let p : t ≡ totalsFrom rules (settingsOf b) b vs = cc in
+        p ∙ f .totals
 
     pub totals-carried-out : (y : Refusal) (a : TotalsAnswer) → a ≡ OfTotals.Refused y → totalsAnswer a ≡ totalsOutcome rules x b vs .0 .answer → ⊥
     totals-carried-out y a g e =

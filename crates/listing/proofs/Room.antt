@@ -18,9 +18,9 @@ use Rattle.lines.specs.Lines.{placeText, totalsText, countText, refusalText}
 use Rattle.lines.specs.Lengths.{refusal-length, count-length, place-length, totals-length}
 use Rattle.evaluators.specs.Laws.{values-width}
 use Rattle.calls.specs.Conditions.{Met, firstOf, chartConditions}
-use Rattle.calls.specs.Calls.{unless, valueOf, totalsOf, totalsFrom}
+use Rattle.calls.specs.Calls.{unless, valueOf}
 use Rattle.editor.specs.Rules.{rules}
-use Rattle.listing.specs.List.{limit, beyondText, metText, placesText, openedText, afreshText, chartText, listText, Filled}
+use Rattle.listing.specs.List.{limit, beyondText, metText, placesText, openedText, valuesAfresh, totalsAfresh, afreshText, chartText, listText, mostListed, Filled}
 use Rattle.listing.proofs.Calls.{few-objects}
 
 -- ---- A turn of the loop over places
@@ -44,12 +44,12 @@ places-same f g (suc k) h =
     λ i. places-same f g k (λ j a c. h j a (omega arith)) i ++ placeText (suc k) (h (suc k) (omega arith) (omega arith) i)
 
 pub filled-text : (b : List ℕ) (vs : List Float) → Filled b vs → (n : ℕ) → n ≡ layoutOf b .n
-    → countText n ++ placesText (row 5 vs) (n - 1) ++ totalsText (totalsFrom rules (settingsOf b) b vs) ≡ afreshText b
+    → countText n ++ placesText (row 5 vs) (n - 1) ++ totalsText (totalsAfresh b) ≡ afreshText b
 unfolding afreshText openedText
 filled-text b vs f n e =
-    (λ i. countText (e i) ++ placesText (row 5 vs) (e i - 1) ++ totalsText (f .totals i))
-    ∙ ap (λ (t : List ℕ). countText (layoutOf b .n) ++ t ++ totalsText (totalsOf rules (settingsOf b) b))
-    (places-same (row 5 vs) (valueOf rules (settingsOf b) b) (layoutOf b .n - 1) (λ j a c. f .values j a (omega arith)))
+    (λ i. countText (e i) ++ placesText (row 5 vs) (e i - 1) ++ totalsText (totalsAfresh b))
+    ∙ ap (λ (t : List ℕ). countText (layoutOf b .n) ++ t ++ totalsText (totalsAfresh b))
+    (places-same (row 5 vs) (valuesAfresh b) (layoutOf b .n - 1) (λ j a c. f .values j a (omega arith)))
 
 -- ---- The limit
 
@@ -69,13 +69,12 @@ places-length f h zero = omega arith
 places-length f h (suc k) =
     simp length-append (omega (arith, places-length f h k, place-length (suc k) (f (suc k)), h (suc k)))
 
-afresh-length : (b : List ℕ) → layoutOf b .n ≤ 583 → length (afreshText b) ≤ 65536
+afresh-length : (b : List ℕ) → layoutOf b .n ≤ mostListed → length (afreshText b) ≤ 65536
 unfolding afreshText openedText valueOf
 afresh-length b h =
     let n = layoutOf b .n in
-    let values = valueOf rules (settingsOf b) b in
     simp length-append
-    (omega (arith, count-length n, places-length values (λ j. values-width _ _ _ _ j) (n - 1), totals-length (totalsOf rules (settingsOf b) b)))
+    (omega (arith, count-length n, places-length (valuesAfresh b) (λ j. values-width _ _ _ _ j) (n - 1), totals-length (totalsAfresh b)))
 
 -- 65,536 bytes are enough for every listing
 pub list-length : (b : List ℕ) → length (listText b) ≤ 65536

@@ -36,9 +36,16 @@ placesText values (suc k) = placesText values k ++ placeText (suc k) (values (su
 unfoldable pub openedText : ℕ → (ℕ → List Float) → Skills → List ℕ
 openedText n values totals = countText n ++ placesText values (n - 1) ++ totalsText totals
 
--- what is listed of a chart that opens, worked out afresh
+-- the values of a place and the totals, worked out afresh
+abbrev pub valuesAfresh : List ℕ → ℕ → List Float
+valuesAfresh b = valueOf rules (settingsOf b) b
+
+abbrev pub totalsAfresh : List ℕ → Skills
+totalsAfresh b = totalsOf rules (settingsOf b) b
+
+-- what is listed of a chart that opens
 unfoldable pub afreshText : List ℕ → List ℕ
-afreshText b = openedText (layoutOf b .n) (valueOf rules (settingsOf b) b) (totalsOf rules (settingsOf b) b)
+afreshText b = openedText (layoutOf b .n) (valuesAfresh b) (totalsAfresh b)
 
 -- within the limit: the first of conditions 1 to 6 that is met, else the chart's values and totals
 unfoldable pub chartText : List ℕ → List ℕ
@@ -54,13 +61,20 @@ listText b = cond (ltb limit (length b)) beyondText (chartText b)
 pub record Filled (b : List ℕ) (vs : List Float) : Type 0 where
   pub opens : firstOf (chartConditions rules b) ≡ none
   pub rows : 5 * layoutOf b .n ≤ length vs
-  pub values : (j : ℕ) → 1 ≤ j → j < layoutOf b .n → row 5 vs j ≡ valueOf rules (settingsOf b) b j
-  pub totals : totalsFrom rules (settingsOf b) b vs ≡ totalsOf rules (settingsOf b) b
+  pub values : (j : ℕ) → 1 ≤ j → j < layoutOf b .n → row 5 vs j ≡ valuesAfresh b j
+  pub totals : totalsFrom rules (settingsOf b) b vs ≡ totalsAfresh b
 
--- the tables and the scratch are long enough for every chart within the limit, which has at most 583 objects
-pub record Room (records values aim still speed light : ℕ) : Type 0 where
-  pub records-room : 9344 ≤ records
-  pub values-room : 2920 ≤ values
+-- the objects that a chart within the limit can have: each takes 56 bytes behind the header's 80
+abbrev pub mostListed : ℕ
+mostListed = 583
+
+-- so many numbers make a table long enough
+pub record Tables (records values : ℕ) : Type 0 where
+  pub records-room : 16 * mostListed ≤ records
+  pub values-room : 5 * mostListed ≤ values
+
+-- and "8,192 numbers per skill"
+pub record Scratch (aim still speed light : ℕ) : Type 0 where
   pub aim-room : 8192 ≤ aim
   pub still-room : 8192 ≤ still
   pub speed-room : 8192 ≤ speed

@@ -3,11 +3,9 @@ ghost use Prim.Native.Nat.{_≤_, _<_, _-_};
 ghost use lib.ListN.{length};
 ghost use Rattle.text.specs.Buffer.{Puts};
 ghost use Rattle.tables.specs.Parts.{row};
-ghost use Rattle.opening.specs.Header.{layoutOf, settingsOf};
+ghost use Rattle.opening.specs.Header.{layoutOf};
 ghost use Rattle.lines.specs.Lines.{placeText, totalsText};
-ghost use Rattle.listing.specs.List.{limit, placesText, afreshText, chartText, listText, Filled, Room};
-ghost use Rattle.calls.specs.Calls.{totalsFrom, totalsOf};
-ghost use Rattle.editor.specs.Rules.{rules};
+ghost use Rattle.listing.specs.List.{limit, placesText, totalsAfresh, afreshText, chartText, listText, Filled, Tables, Scratch};
 use editor::TotalsAnswer;
 use editor::ValuesAnswer;
 use opening::Refusal;
@@ -16,10 +14,12 @@ use opening::Verdict;
 // The longest chart that is listed, in bytes.
 const LIMIT: usize = 32768;
 
-// The numbers in each table, enough for the 583 objects that a chart of so many bytes can have.
-const RECORDS: usize = 9344;
+// The objects that a chart of so many bytes can have, and the numbers of each table for as many.
+const OBJECTS: usize = 583;
 
-const VALUES: usize = 2920;
+const RECORDS: usize = 16 * OBJECTS;
+
+const VALUES: usize = 5 * OBJECTS;
 
 // The numbers that totals need for each skill.
 const SCRATCH: usize = 8192;
@@ -60,15 +60,8 @@ fn put_totals(
     c: &mut [f64],
     d: &mut [f64],
 ) -> usize
-    requires { ⌜ Filled (now chart) (now values) × Room 9344 2920 (length (now a)) (length (now b)) (length (now c)) (length (now d)) ⌝ }
-    ensures { λ r. ⌜
-        Puts
-        (totalsText (totalsFrom rules (settingsOf (now (chart .entry))) (now (chart .entry)) (now (values .entry))))
-        (now (out .entry))
-        at
-        (now (out .exit))
-        r
-        ⌝ }
+    requires { ⌜ Filled (now chart) (now values) × Scratch (length (now a)) (length (now b)) (length (now c)) (length (now d)) ⌝ }
+    ensures { λ r. ⌜ Puts (totalsText (totalsAfresh (now (chart .entry)))) (now (out .entry)) at (now (out .exit)) r ⌝ }
 {
     match editor::totals(chart, values, a, b, c, d) {
         TotalsAnswer::Refused(r) => lines::put_refusal(out, at, r),
@@ -86,7 +79,7 @@ fn put_opened(
     c: &mut [f64],
     d: &mut [f64],
 ) -> usize
-    requires { ⌜ Filled (now chart) (now values) × Room 9344 2920 (length (now a)) (length (now b)) (length (now c)) (length (now d)) ⌝ }
+    requires { ⌜ Filled (now chart) (now values) × Scratch (length (now a)) (length (now b)) (length (now c)) (length (now d)) ⌝ }
     ensures { λ r. ⌜ Puts (afreshText (now (chart .entry))) (now (out .entry)) 0 (now (out .exit)) r ⌝ }
 {
     let n = opening::layout_of(chart).n;
@@ -106,16 +99,8 @@ fn put_within(
     c: &mut [f64],
     d: &mut [f64],
 ) -> usize
-    requires { ⌜ length (now chart) ≤ limit ⌝ }
-    requires { ⌜
-        Room
-        (length (now records))
-        (length (now values))
-        (length (now a))
-        (length (now b))
-        (length (now c))
-        (length (now d))
-        ⌝ }
+    requires { ⌜ (length (now chart) ≤ limit) × Tables (length (now records)) (length (now values)) ⌝ }
+    requires { ⌜ Scratch (length (now a)) (length (now b)) (length (now c)) (length (now d)) ⌝ }
     ensures { λ r. ⌜ Puts (chartText (now (chart .entry))) (now (out .entry)) 0 (now (out .exit)) r ⌝ }
 {
     match editor::open(chart, records, values) {
