@@ -33,16 +33,15 @@ use Rattle.editor.specs.declared.TotalsAnswer.{TotalsAnswer}
 use Rattle.editor.specs.declared.ValuesAnswer.the-variants as OfValues
 use Rattle.editor.specs.declared.TotalsAnswer.the-variants as OfTotals
 use Rattle.lines.specs.Lines.{refusalText}
-use Rattle.listing.specs.List.{limit, metText, afreshText, chartText, Filled, Room}
+use Rattle.listing.specs.List.{limit, mostListed, metText, totalsAfresh, afreshText, chartText, Filled, Tables, ScratchRoom}
 
 -- ---- Opening
 
--- a chart within the limit that opens has at most 583 objects
-pub few-objects : (b : List ℕ) → Opens b → length b ≤ limit → layoutOf b .n ≤ 583
+pub few-objects : (b : List ℕ) → Opens b → length b ≤ limit → layoutOf b .n ≤ mostListed
 unfolding layoutOf
 few-objects b o h = let k = holds b (header-ok b o) in omega (arith, k .objects, k .nested-in, k .points-in)
 
-module _ (b : List ℕ) (rs vs : List Float) (within : length b ≤ limit) (r : 9344 ≤ length rs) (v : 2920 ≤ length vs) where
+module _ (b : List ℕ) (rs vs : List Float) (within : length b ≤ limit) (room : Tables (length rs) (length vs)) where
   -- so condition 7 is never met
   opening-is : openAnswer (state b rs vs) ≡ firstOf (chartConditions b)
   unfolding openAnswer openConditions
@@ -51,7 +50,7 @@ module _ (b : List ℕ) (rs vs : List Float) (within : length b ≤ limit) (r : 
       go : (q : Verdict) → firstOf (chartConditions b) ≡ q → opening (length rs) (length vs) b ≡ q
       go Accepted e =
           let n = few-objects b e within in
-          opening-none (length rs) (length vs) b e (omega arith) (omega arith)
+          opening-none (length rs) (length vs) b e (omega (arith, room .records-room)) (omega (arith, room .values-room))
       go (Refused x) e = first-refused (chartConditions b) _ x e
 
   text-by : Verdict → List ℕ
@@ -70,10 +69,10 @@ module _ (b : List ℕ) (rs vs : List Float) (within : length b ≤ limit) (r : 
     accepted-text = ap text-by (sym opens)
 
     records-fit : recordWidth * layoutOf b .n ≤ length rs
-    records-fit = let n = few-objects b opens within in omega arith
+    records-fit = let n = few-objects b opens within in omega (arith, room .records-room)
 
     values-fit : valueWidth * layoutOf b .n ≤ length vs
-    values-fit = let n = few-objects b opens within in omega arith
+    values-fit = let n = few-objects b opens within in omega (arith, room .values-room)
 
     left : openLeaves (state b rs vs) ≡ opened (state b rs vs)
     unfolding openLeaves ifAccepted
@@ -120,11 +119,11 @@ module _ (b : List ℕ) (vs : List Float) (f : Filled b vs) where
         let z : _≡_ {A = ℕ} 0 1 = cc in
         omega arith
 
-  module _ (x : Scratch) (room : Room 9344 2920 (length (x .aim)) (length (x .aimNoSliders)) (length (x .speed)) (length (x .flashlight))) where
+  module _ (x : Scratch) (room : ScratchRoom (length (x .aim)) (length (x .aimNoSliders)) (length (x .speed)) (length (x .flashlight))) where
     long : scratchShort (lengths x) ≡ false
     unfolding scratchShort
     long =
-        rw (le-ltb (length (x .aim)) 8192 (room .aim-room), le-ltb (length (x .aimNoSliders)) 8192 (room .aimNoSliders-room), le-ltb (length (x .speed)) 8192 (room .speed-room), le-ltb (length (x .flashlight)) 8192 (room .flashlight-room))
+        rw (le-ltb (length (x .aim)) 8192 (room .aim-room), le-ltb (length (x .aimNoSliders)) 8192 (room .no-sliders-room), le-ltb (length (x .speed)) 8192 (room .speed-room), le-ltb (length (x .flashlight)) 8192 (room .flashlight-room))
 
     totals-not-refused : verdictIn (figure totals (lengths x)) (state b [] vs) ≡ Accepted
     unfolding verdictIn
@@ -135,11 +134,12 @@ module _ (b : List ℕ) (vs : List Float) (f : Filled b vs) where
     summing = ap (λ y. y .answer) (carried-out (figure totals (lengths x)) (state b [] vs) totals-not-refused)
 
     pub totals-are : (t : Skills) (a : TotalsAnswer) → a ≡ OfTotals.Totals t → totalsAnswer a ≡ outcome (figure totals (lengths x)) (state b [] vs) .answer
-        → t ≡ totalsOf (settingsOf b) b (row valueWidth vs)
+        → t ≡ totalsAfresh b
     totals-are t a g e =
         let q : figureIs (totalsAre t) ≡ figureIs (totalsAre (totalsOf (settingsOf b) b (row valueWidth vs))) = ap totalsAnswer (sym g) ∙ (e ∙ summing) in
         let p : totalsAre t ≡ totalsAre (totalsOf (settingsOf b) b (row valueWidth vs)) = cc in
-        cc
+        let r : t ≡ totalsOf (settingsOf b) b (row valueWidth vs) = cc in
+        r ∙ f .totals
 
     pub totals-carried-out : (y : Refusal) (a : TotalsAnswer) → a ≡ OfTotals.Refused y → totalsAnswer a ≡ outcome (figure totals (lengths x)) (state b [] vs) .answer → ⊥
     totals-carried-out y a g e =

@@ -19,8 +19,8 @@ use Rattle.evaluators.specs.Laws.{values-width}
 use Rattle.opening.specs.Conditions.{refusalNumber, refusalPlace, firstOf, ifAccepted, chartConditions}
 use Rattle.opening.specs.declared.Verdict.{Verdict}
 use Rattle.opening.specs.declared.Verdict.the-variants.{Accepted, Refused}
-use Rattle.calls.specs.Afresh.{freshValues, totalsOf}
-use Rattle.listing.specs.List.{limit, beyondText, metText, placesText, openedText, afreshText, chartText, listText, Filled}
+use Rattle.calls.specs.Afresh.{freshValues}
+use Rattle.listing.specs.List.{limit, beyondText, metText, placesText, openedText, valuesAfresh, totalsAfresh, afreshText, chartText, listText, mostListed, Filled}
 use Rattle.listing.proofs.Calls.{few-objects}
 
 -- ---- A turn of the loop over places
@@ -44,12 +44,12 @@ places-same f g (suc k) h =
     λ i. places-same f g k (λ j a c. h j a (omega arith)) i ++ placeText (suc k) (h (suc k) (omega arith) (omega arith) i)
 
 pub filled-text : (b : List ℕ) (vs : List Float) → Filled b vs → (n : ℕ) → n ≡ layoutOf b .n
-    → countText n ++ placesText (row 5 vs) (n - 1) ++ totalsText (totalsOf (settingsOf b) b (row 5 vs)) ≡ afreshText b
+    → countText n ++ placesText (row 5 vs) (n - 1) ++ totalsText (totalsAfresh b) ≡ afreshText b
 unfolding afreshText openedText
 filled-text b vs f n e =
-    (λ i. countText (e i) ++ placesText (row 5 vs) (e i - 1) ++ totalsText (f .totals i))
-    ∙ ap (λ (t : List ℕ). countText (layoutOf b .n) ++ t ++ totalsText (totalsOf (settingsOf b) b (freshValues (settingsOf b) b)))
-    (places-same (row 5 vs) (freshValues (settingsOf b) b) (layoutOf b .n - 1) (λ j a c. f .values j a (omega arith)))
+    (λ i. countText (e i) ++ placesText (row 5 vs) (e i - 1) ++ totalsText (totalsAfresh b))
+    ∙ ap (λ (t : List ℕ). countText (layoutOf b .n) ++ t ++ totalsText (totalsAfresh b))
+    (places-same (row 5 vs) (valuesAfresh b) (layoutOf b .n - 1) (λ j a c. f .values j a (omega arith)))
 
 -- ---- The limit
 
@@ -69,13 +69,12 @@ places-length f h zero = omega arith
 places-length f h (suc k) =
     simp length-append (omega (arith, places-length f h k, place-length (suc k) (f (suc k)), h (suc k)))
 
-afresh-length : (b : List ℕ) → layoutOf b .n ≤ 583 → length (afreshText b) ≤ 65536
+afresh-length : (b : List ℕ) → layoutOf b .n ≤ mostListed → length (afreshText b) ≤ 65536
 unfolding afreshText openedText freshValues
 afresh-length b h =
     let n = layoutOf b .n in
-    let values = freshValues (settingsOf b) b in
     simp length-append
-    (omega (arith, count-length n, places-length values (λ j. values-width _ _ _ _ j) (n - 1), totals-length (totalsOf (settingsOf b) b (freshValues (settingsOf b) b))))
+    (omega (arith, count-length n, places-length (valuesAfresh b) (λ j. values-width _ _ _ _ j) (n - 1), totals-length (totalsAfresh b)))
 
 -- 65,536 bytes are enough for every listing
 pub list-length : (b : List ℕ) → length (listText b) ≤ 65536

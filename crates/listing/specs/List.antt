@@ -12,7 +12,7 @@ use Rattle.skills.specs.declared.Skills.{Skills}
 use Rattle.lines.specs.Lines.{refusalText, countText, placeText, totalsText}
 use Rattle.opening.specs.Conditions.{refusalNumber, refusalPlace, firstOf, ifAccepted, chartConditions, Opens}
 use Rattle.opening.specs.declared.Refusal.{Refusal}
-use Rattle.calls.specs.Tables.{valueWidth}
+use Rattle.calls.specs.Tables.{recordWidth, valueWidth, leastScratch}
 use Rattle.calls.specs.Afresh.{freshValues, totalsOf}
 
 -- "reads a chart (to 32,768 bytes ..)"
@@ -36,9 +36,16 @@ placesText values (suc k) = placesText values k ++ placeText (suc k) (values (su
 unfoldable pub openedText : ℕ → (ℕ → List Float) → Skills → List ℕ
 openedText n values totals = countText n ++ placesText values (n - 1) ++ totalsText totals
 
--- what is listed of a chart that opens, worked out afresh
+-- the values of a place and the totals, worked out afresh
+abbrev pub valuesAfresh : List ℕ → ℕ → List Float
+valuesAfresh b = freshValues (settingsOf b) b
+
+abbrev pub totalsAfresh : List ℕ → Skills
+totalsAfresh b = totalsOf (settingsOf b) b (valuesAfresh b)
+
+-- what is listed of a chart that opens
 unfoldable pub afreshText : List ℕ → List ℕ
-afreshText b = openedText (layoutOf b .n) (freshValues (settingsOf b) b) (totalsOf (settingsOf b) b (freshValues (settingsOf b) b))
+afreshText b = openedText (layoutOf b .n) (valuesAfresh b) (totalsAfresh b)
 
 -- within the limit: the first of conditions 1 to 6 that is met, else the chart's values and totals
 unfoldable pub chartText : List ℕ → List ℕ
@@ -54,14 +61,21 @@ listText b = cond (ltb limit (length b)) beyondText (chartText b)
 pub record Filled (b : List ℕ) (vs : List Float) : Type 0 where
   pub opens : Opens b
   pub rows : valueWidth * layoutOf b .n ≤ length vs
-  pub values : (j : ℕ) → 1 ≤ j → j < layoutOf b .n → row valueWidth vs j ≡ freshValues (settingsOf b) b j
-  pub totals : totalsOf (settingsOf b) b (row valueWidth vs) ≡ totalsOf (settingsOf b) b (freshValues (settingsOf b) b)
+  pub values : (j : ℕ) → 1 ≤ j → j < layoutOf b .n → row valueWidth vs j ≡ valuesAfresh b j
+  pub totals : totalsOf (settingsOf b) b (row valueWidth vs) ≡ totalsAfresh b
 
--- the tables and the scratch are long enough for every chart within the limit, which has at most 583 objects
-pub record Room (records values aim aimNoSliders speed flashlight : ℕ) : Type 0 where
-  pub records-room : 9344 ≤ records
-  pub values-room : 2920 ≤ values
-  pub aim-room : 8192 ≤ aim
-  pub aimNoSliders-room : 8192 ≤ aimNoSliders
-  pub speed-room : 8192 ≤ speed
-  pub flashlight-room : 8192 ≤ flashlight
+-- the objects that a chart within the limit can have: each takes 56 bytes behind the header's 80
+abbrev pub mostListed : ℕ
+mostListed = 583
+
+-- so many numbers make a table long enough
+pub record Tables (records values : ℕ) : Type 0 where
+  pub records-room : recordWidth * mostListed ≤ records
+  pub values-room : valueWidth * mostListed ≤ values
+
+-- and "8,192 numbers per skill"
+pub record ScratchRoom (aim aimNoSliders speed flashlight : ℕ) : Type 0 where
+  pub aim-room : leastScratch ≤ aim
+  pub no-sliders-room : leastScratch ≤ aimNoSliders
+  pub speed-room : leastScratch ≤ speed
+  pub flashlight-room : leastScratch ≤ flashlight

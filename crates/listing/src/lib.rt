@@ -3,10 +3,9 @@ ghost use Prim.Native.Nat.{_≤_, _<_, _-_};
 ghost use lib.ListN.{length};
 ghost use Rattle.text.specs.Buffer.{Puts};
 ghost use Rattle.tables.specs.Parts.{row};
-ghost use Rattle.opening.specs.Header.{layoutOf, settingsOf};
+ghost use Rattle.opening.specs.Header.{layoutOf};
 ghost use Rattle.lines.specs.Lines.{placeText, totalsText};
-ghost use Rattle.listing.specs.List.{limit, placesText, afreshText, chartText, listText, Filled, Room};
-ghost use Rattle.calls.specs.Afresh.{totalsOf};
+ghost use Rattle.listing.specs.List.{limit, placesText, totalsAfresh, afreshText, chartText, listText, Filled, Tables, ScratchRoom};
 use editor::TotalsAnswer;
 use editor::ValuesAnswer;
 use opening::Refusal;
@@ -15,10 +14,12 @@ use opening::Verdict;
 // The longest chart that is listed, in bytes.
 const LIMIT: usize = 32768;
 
-// The numbers in each table, enough for the 583 objects that a chart of so many bytes can have.
-const RECORDS: usize = 9344;
+// The objects that a chart of so many bytes can have, and the numbers of each table for as many.
+const OBJECTS: usize = 583;
 
-const VALUES: usize = 2920;
+const RECORDS: usize = editor::RECORD_WIDTH * OBJECTS;
+
+const VALUES: usize = editor::VALUE_WIDTH * OBJECTS;
 
 // The numbers that totals need for each skill.
 const SCRATCH: usize = 8192;
@@ -54,22 +55,15 @@ fn put_totals(
     at: usize,
     chart: &[u8],
     values: &[f64],
-    a: &mut [f64],
-    b: &mut [f64],
-    c: &mut [f64],
-    d: &mut [f64],
+    aim: &mut [f64],
+    aim_no_sliders: &mut [f64],
+    speed: &mut [f64],
+    flashlight: &mut [f64],
 ) -> usize
-    requires { ⌜ Filled (now chart) (now values) × Room 9344 2920 (length (now a)) (length (now b)) (length (now c)) (length (now d)) ⌝ }
-    ensures { λ r. ⌜
-        Puts
-        (totalsText (totalsOf (settingsOf (now (chart .entry))) (now (chart .entry)) (row 5 (now (values .entry)))))
-        (now (out .entry))
-        at
-        (now (out .exit))
-        r
-        ⌝ }
+    requires { ⌜ Filled (now chart) (now values) × ScratchRoom (length (now aim)) (length (now «aim_no_sliders»)) (length (now speed)) (length (now flashlight)) ⌝ }
+    ensures { λ r. ⌜ Puts (totalsText (totalsAfresh (now (chart .entry)))) (now (out .entry)) at (now (out .exit)) r ⌝ }
 {
-    match editor::totals(chart, values, a, b, c, d) {
+    match editor::totals(chart, values, aim, aim_no_sliders, speed, flashlight) {
         TotalsAnswer::Refused(r) => lines::put_refusal(out, at, r),
         TotalsAnswer::Totals(t) => lines::put_totals(out, at, t),
     }
@@ -80,18 +74,18 @@ fn put_opened(
     out: &mut [u8],
     chart: &[u8],
     values: &[f64],
-    a: &mut [f64],
-    b: &mut [f64],
-    c: &mut [f64],
-    d: &mut [f64],
+    aim: &mut [f64],
+    aim_no_sliders: &mut [f64],
+    speed: &mut [f64],
+    flashlight: &mut [f64],
 ) -> usize
-    requires { ⌜ Filled (now chart) (now values) × Room 9344 2920 (length (now a)) (length (now b)) (length (now c)) (length (now d)) ⌝ }
+    requires { ⌜ Filled (now chart) (now values) × ScratchRoom (length (now aim)) (length (now «aim_no_sliders»)) (length (now speed)) (length (now flashlight)) ⌝ }
     ensures { λ r. ⌜ Puts (afreshText (now (chart .entry))) (now (out .entry)) 0 (now (out .exit)) r ⌝ }
 {
     let n = opening::layout_of(chart).n;
     let count = lines::put_count(out, 0, n);
     let places = put_places(out, count, chart, values, n);
-    put_totals(out, places, chart, values, a, b, c, d)
+    put_totals(out, places, chart, values, aim, aim_no_sliders, speed, flashlight)
 }
 
 // The lines of a chart within the limit.
@@ -100,26 +94,18 @@ fn put_within(
     chart: &[u8],
     records: &mut [f64],
     values: &mut [f64],
-    a: &mut [f64],
-    b: &mut [f64],
-    c: &mut [f64],
-    d: &mut [f64],
+    aim: &mut [f64],
+    aim_no_sliders: &mut [f64],
+    speed: &mut [f64],
+    flashlight: &mut [f64],
 ) -> usize
-    requires { ⌜ length (now chart) ≤ limit ⌝ }
-    requires { ⌜
-        Room
-        (length (now records))
-        (length (now values))
-        (length (now a))
-        (length (now b))
-        (length (now c))
-        (length (now d))
-        ⌝ }
+    requires { ⌜ (length (now chart) ≤ limit) × Tables (length (now records)) (length (now values)) ⌝ }
+    requires { ⌜ ScratchRoom (length (now aim)) (length (now «aim_no_sliders»)) (length (now speed)) (length (now flashlight)) ⌝ }
     ensures { λ r. ⌜ Puts (chartText (now (chart .entry))) (now (out .entry)) 0 (now (out .exit)) r ⌝ }
 {
     match editor::open(chart, records, values) {
         Verdict::Refused(r) => lines::put_refusal(out, 0, r),
-        Verdict::Accepted => put_opened(out, chart, values, a, b, c, d),
+        Verdict::Accepted => put_opened(out, chart, values, aim, aim_no_sliders, speed, flashlight),
     }
 }
 
@@ -132,18 +118,18 @@ pub fn put_chart(out: &mut [u8], chart: &[u8]) -> usize
     }
     let mut records = [0.0f64; RECORDS];
     let mut values = [0.0f64; VALUES];
-    let mut a = [0.0f64; SCRATCH];
-    let mut b = [0.0f64; SCRATCH];
-    let mut c = [0.0f64; SCRATCH];
-    let mut d = [0.0f64; SCRATCH];
+    let mut aim = [0.0f64; SCRATCH];
+    let mut aim_no_sliders = [0.0f64; SCRATCH];
+    let mut speed = [0.0f64; SCRATCH];
+    let mut flashlight = [0.0f64; SCRATCH];
     put_within(
         out,
         chart,
         &mut records[..],
         &mut values[..],
-        &mut a[..],
-        &mut b[..],
-        &mut c[..],
-        &mut d[..],
+        &mut aim[..],
+        &mut aim_no_sliders[..],
+        &mut speed[..],
+        &mut flashlight[..],
     )
 }

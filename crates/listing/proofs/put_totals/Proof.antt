@@ -42,7 +42,7 @@ same-length-5 c = search needs
 returns : tie.Need-returns
 returns c =
     let a = c .before .before .before .before .before .before .before .before .before .before .before .before .before .before .before .before .before .before .before .before .before .before .before .before .before .before .before .args in
-    absurd (totals-carried-out (a .chart .now) (a .values .now) (c .before .before .before .before .before .before .before .before .before .before .before .before .before .before .before .before .before .before .before .before .before .before .before .before .before .before .before .pre .0) (scratchOf (a .a .now) (a .b .now) (a .c .now) (a .d .now)) (c .before .before .before .before .before .before .before .before .before .before .before .before .before .before .before .before .before .before .before .before .before .before .before .before .before .before .before .pre .1) _ _ (c .before .before .before .before .before .r .given .1) (ap (λ (x : Outcome). x .answer) (c .before .before .before .before .before .before .before .before .before .before .before .before .before .before .before .totals .ensures .0)))
+    absurd (totals-carried-out (a .chart .now) (a .values .now) (c .before .before .before .before .before .before .before .before .before .before .before .before .before .before .before .before .before .before .before .before .before .before .before .before .before .before .before .pre .0) (scratchOf (a .aim .now) (a .aim-no-sliders .now) (a .speed .now) (a .flashlight .now)) (c .before .before .before .before .before .before .before .before .before .before .before .before .before .before .before .before .before .before .before .before .before .before .before .before .before .before .before .pre .1) _ _ (c .before .before .before .before .before .r .given .1) (ap (λ (x : Outcome). x .answer) (c .before .before .before .before .before .before .before .before .before .before .before .before .before .before .before .totals .ensures .0)))
 
 same-length-6 : tie.Need-same-length-6
 same-length-6 c = search needs
@@ -62,7 +62,7 @@ same-length-10 c = search needs
 returns-2 : tie.Need-returns-2
 returns-2 c =
     let a = c .before .before .before .before .before .before .before .before .before .before .before .before .before .before .before .before .before .before .before .before .before .before .before .before .before .before .before .args in
-    same-text (ap totalsText (totals-are (a .chart .now) (a .values .now) (c .before .before .before .before .before .before .before .before .before .before .before .before .before .before .before .before .before .before .before .before .before .before .before .before .before .before .before .pre .0) (scratchOf (a .a .now) (a .b .now) (a .c .now) (a .d .now)) (c .before .before .before .before .before .before .before .before .before .before .before .before .before .before .before .before .before .before .before .before .before .before .before .before .before .before .before .pre .1) _ _ (c .before .before .before .before .before .t .given .1) (ap (λ (x : Outcome). x .answer) (c .before .before .before .before .before .before .before .before .before .before .before .before .before .before .before .totals .ensures .0)))) (c .before .before .put-totals .ensures)
+    same-text (ap totalsText (totals-are (a .chart .now) (a .values .now) (c .before .before .before .before .before .before .before .before .before .before .before .before .before .before .before .before .before .before .before .before .before .before .before .before .before .before .before .pre .0) (scratchOf (a .aim .now) (a .aim-no-sliders .now) (a .speed .now) (a .flashlight .now)) (c .before .before .before .before .before .before .before .before .before .before .before .before .before .before .before .before .before .before .before .before .before .before .before .before .before .before .before .pre .1) _ _ (c .before .before .before .before .before .t .given .1) (ap (λ (x : Outcome). x .answer) (c .before .before .before .before .before .before .before .before .before .before .before .before .before .before .before .totals .ensures .0)))) (c .before .before .put-totals .ensures)
 
 pub put-totals-spec : {M : Type 1} → statement M
 put-totals-spec =

@@ -1,5 +1,4 @@
 -- `listing::put_within` meets its contract: the tables are long enough, so that opening answers by conditions 1 to 6. Assumes nothing.
-use native.Mathlib.Omega.{arith}
 use Rattle.text.specs.Buffer.{same-text}
 use Rattle.listing.proofs.Calls.{refused-text, accepted-text, accepted-filled}
 use borrow.Author.Needs.{needs}
@@ -21,9 +20,9 @@ enum-told c = search needs
 put-opened-requires : tie.Need-put-opened-requires
 put-opened-requires c κs =
     let a = c .before .before .before .before .before .before .before .before .before .before .before .before .before .before .before .before .before .before .before .before .before .before .before .args in
-    let m = c .before .before .before .before .before .before .before .before .before .before .before .before .before .before .before .before .before .before .before .before .before .before .before .pre .1 in (
-      accepted-filled (a .chart .now) (a .records .now) (a .values .now) (c .before .before .before .before .before .before .before .before .before .before .before .before .before .before .before .before .before .before .before .before .before .before .before .pre .0) (m .records-room) (m .values-room) _ (c .before .before .before .before .before .before .enum-told .given .1) (c .before .before .before .before .before .before .before .before .before .before .before .before .«open» .ensures .0) _ (c .before .before .before .before .before .before .before .before .before .before .before .before .«open» .ensures .1),
-      record { records-room = omega arith; values-room = omega arith; aim-room = m .aim-room; aimNoSliders-room = m .aimNoSliders-room; speed-room = m .speed-room; flashlight-room = m .flashlight-room },
+    let m = c .before .before .before .before .before .before .before .before .before .before .before .before .before .before .before .before .before .before .before .before .before .before .before .pre .0 in (
+      accepted-filled (a .chart .now) (a .records .now) (a .values .now) (m .0) (m .1) _ (c .before .before .before .before .before .before .enum-told .given .1) (c .before .before .before .before .before .before .before .before .before .before .before .before .«open» .ensures .0) _ (c .before .before .before .before .before .before .before .before .before .before .before .before .«open» .ensures .1),
+      c .before .before .before .before .before .before .before .before .before .before .before .before .before .before .before .before .before .before .before .before .before .before .before .pre .1,
     )
 
 same-length : tie.Need-same-length
@@ -38,8 +37,8 @@ same-length-3 c = search needs
 returns : tie.Need-returns
 returns c =
     let a = c .before .before .before .before .before .before .before .before .before .before .before .before .before .before .before .before .before .before .before .before .before .before .args in
-    let m = c .before .before .before .before .before .before .before .before .before .before .before .before .before .before .before .before .before .before .before .before .before .before .pre .1 in
-    same-text (refused-text (a .chart .now) (a .records .now) (a .values .now) (c .before .before .before .before .before .before .before .before .before .before .before .before .before .before .before .before .before .before .before .before .before .before .pre .0) (m .records-room) (m .values-room) _ _ (c .before .before .before .before .before .r .given .1) (c .before .before .before .before .before .before .before .before .before .before .before .«open» .ensures .0)) (c .before .before .put-refusal .ensures)
+    let m = c .before .before .before .before .before .before .before .before .before .before .before .before .before .before .before .before .before .before .before .before .before .before .pre .0 in
+    same-text (refused-text (a .chart .now) (a .records .now) (a .values .now) (m .0) (m .1) _ _ (c .before .before .before .before .before .r .given .1) (c .before .before .before .before .before .before .before .before .before .before .before .«open» .ensures .0)) (c .before .before .put-refusal .ensures)
 
 same-length-4 : tie.Need-same-length-4
 same-length-4 c = search needs
@@ -65,8 +64,8 @@ same-length-10 c = search needs
 returns-2 : tie.Need-returns-2
 returns-2 c =
     let a = c .before .before .before .before .before .before .before .before .before .before .before .before .before .before .before .before .before .before .before .before .before .before .before .before .before .before .before .before .before .before .before .before .before .before .args in
-    let m = c .before .before .before .before .before .before .before .before .before .before .before .before .before .before .before .before .before .before .before .before .before .before .before .before .before .before .before .before .before .before .before .before .before .before .pre .1 in
-    same-text (accepted-text (a .chart .now) (a .records .now) (a .values .now) (c .before .before .before .before .before .before .before .before .before .before .before .before .before .before .before .before .before .before .before .before .before .before .before .before .before .before .before .before .before .before .before .before .before .before .pre .0) (m .records-room) (m .values-room) _ (c .before .before .before .before .before .before .before .before .before .before .before .before .before .before .before .before .before .enum-told .given .1) (c .before .before .before .before .before .before .before .before .before .before .before .before .before .before .before .before .before .before .before .before .before .before .before .«open» .ensures .0)) (c .before .before .before .before .before .before .before .before .before .before .put-opened .ensures)
+    let m = c .before .before .before .before .before .before .before .before .before .before .before .before .before .before .before .before .before .before .before .before .before .before .before .before .before .before .before .before .before .before .before .before .before .before .pre .0 in
+    same-text (accepted-text (a .chart .now) (a .records .now) (a .values .now) (m .0) (m .1) _ (c .before .before .before .before .before .before .before .before .before .before .before .before .before .before .before .before .before .enum-told .given .1) (c .before .before .before .before .before .before .before .before .before .before .before .before .before .before .before .before .before .before .before .before .before .before .before .«open» .ensures .0)) (c .before .before .before .before .before .before .before .before .before .before .put-opened .ensures)
 
 pub put-within-spec : {M : Type 1} → statement M
 put-within-spec =
