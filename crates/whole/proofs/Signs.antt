@@ -1,33 +1,33 @@
 -- Signs pass through whole parts, and the sign of a bit pattern is the value's. Over the format. Assumes nothing.
 use mathlib.Core.Path.{_≡_, refl, sym, ap, _∙_}
 use mathlib.Core.Bool.{Bool, true, false, cond}
-use Prim.Native.Nat.{ℕ, zero, suc, _+_, _*_, _/_, _%_, _<_}
+use Prim.Native.Nat.{ℕ, zero, suc, _+_, _/_, _%_, _<_}
 use lib.Dec.{eqb}
-use lib.Ieee.{Float, nan, inf, fin, Format, prec, low, up, down, odd, neg, ofFields, ofBits, hid, ones, top}
+use lib.Ieee.{Float, nan, inf, fin, Format, prec, low, odd, neg, ofFields, ofBits, hid, ones, top}
 use Rattle.floats.specs.Pattern.{signed}
 use Rattle.floats.specs.Value.{ofBits-signed}
-use Rattle.whole.specs.Whole.{above, truncOf, floorOf, ceilOf}
+use Rattle.whole.specs.Whole.{truncOf, floorOf, ceilOf}
 use Rattle.whole.specs.WholeLaws.{neg-odd, neg-round}
 
 pub trunc-neg : (f : Format) (x : Float) → neg (truncOf f x) ≡ truncOf f (neg x)
 unfolding truncOf neg
 trunc-neg f nan = refl
 trunc-neg f (inf s) = refl
-trunc-neg f (fin s m e) = neg-round f s (m * up e / down e) 1
+trunc-neg f (fin s m e) = neg-round f s _ 1
 
 pub floor-neg : (f : Format) (x : Float) → neg (ceilOf f x) ≡ floorOf f (neg x)
 unfolding floorOf ceilOf neg
 floor-neg f nan = refl
 floor-neg f (inf s) = refl
-floor-neg f (fin true m e) = neg-round f true (m * up e / down e) 1
-floor-neg f (fin false m e) = neg-round f false (above (m * up e) (down e)) 1
+floor-neg f (fin true m e) = neg-round f true _ 1
+floor-neg f (fin false m e) = neg-round f false _ 1
 
 pub ceil-neg : (f : Format) (x : Float) → neg (floorOf f x) ≡ ceilOf f (neg x)
 unfolding floorOf ceilOf neg
 ceil-neg f nan = refl
 ceil-neg f (inf s) = refl
-ceil-neg f (fin true m e) = neg-round f true (above (m * up e) (down e)) 1
-ceil-neg f (fin false m e) = neg-round f false (m * up e / down e) 1
+ceil-neg f (fin true m e) = neg-round f true _ 1
+ceil-neg f (fin false m e) = neg-round f false _ 1
 
 -- a pattern with its sign set is the value without it, negated
 neg-fields : (f : Format) (x t : ℕ) → ofFields f true x t ≡ neg (ofFields f false x t)
