@@ -1,30 +1,30 @@
 -- The parts put together are the value, and both depend on the view as far as three places back alone. Assumes nothing.
-use Prim.Native.Nat.{ℕ, _*_, _-_, _≤_, _<_, min}
+use Prim.Native.Nat.{ℕ, _-_, _≤_, _<_, min}
 use native.Mathlib.Omega.{arith}
 use native.Mathlib.Nat.{sub-zero}
 use mathlib.Core.Path.{_≡_, refl, sym, ap, _∙_}
 use mathlib.Core.Bool.{Bool, true, false, cond, _||_}
 use mathlib.Core.List.{List}
 use lib.Dec.{ltb, leb}
-use lib.ListN.{take, drop}
 use lib.Ieee as Ieee
 use lib.Ieee.{Float, nan}
 use lib.Ieee.Compare.{differs-from-itself}
 use borrow.Author.Tests.{le-ltb, ltb-true, ltb-false}
 use Rattle.floats.specs.Numbers.{zero64}
 use Rattle.floats.specs.Compare.{maxOf}
-use Rattle.objects.specs.declared.Layout.{Layout}
-use Rattle.osu_object.specs.Osu.{objectOf}
+use Rattle.osu_object.specs.Osu.{Object}
 use Rattle.osu_object.specs.Base.{baseOf}
 use Rattle.records.specs.Rows.{recordAt}
-use Rattle.records.specs.Part.{firstPlace, endPlace}
-use Rattle.records.specs.Sight.{View, sightOf, viewOf, viewAt}
+use Rattle.object.specs.declared.OsuDifficultyObject.{OsuDifficultyObject}
+use Rattle.records.specs.Part.{firstPlace, lastPlace, partAt}
+use Rattle.records.specs.Sight.{View, sightOf, viewOf}
+use Rattle.records.specs.declared.Part.{Part}
 use Rattle.records.specs.declared.Sight.{Sight}
-use Rattle.records.proofs.Parts.{ltb-iff, before-part, view-part}
+use Rattle.records.proofs.Parts.{ltb-iff, partIn, view-part}
 use Rattle.aim.specs.declared.AimRule.{AimRule}
 use Rattle.aim.specs.declared.AimRule.the-variants.{TooFew, Spinner, Acute, Wide}
 use Rattle.aim.specs.declared.AimParts.{AimParts}
-use Rattle.aim.specs.Aim.{spacingOf, ruleOf, sideOf, noParts, bonusesOf, combineOf, allParts, partsOf, aimOf}
+use Rattle.aim.specs.Aim.{spacingOf, ruleOf, sideOf, noParts, bonusesOf, combineOf, allParts, partsOf, aimOf, partsAtPlace, aimAtPlace}
 
 -- no parts make 0
 combine-none : (r : AimRule) (sliders : Bool) → combineOf (noParts r) sliders ≡ zero64
@@ -80,24 +80,16 @@ aim-same v w m n sliders cap same =
 
 -- ---- over the part of the table that is lent
 
-module _ (t : List Float) (chart : List ℕ) (lay : Layout) (n j a e : ℕ) (sliders : Bool)
-    (one : 1 ≤ j) (inside : j < n) (f : a ≡ firstPlace j) (l : e ≡ endPlace j n) where
-  within : (k : ℕ) → k ≤ min (j - a) 3 → k ≤ j - a
-  within k b = omega (b, arith)
-
-  pub parts-part : partsOf (viewAt (take (16 * e - 16 * a) (drop (16 * a) t)) chart lay (j - a) j) (j - a) sliders
-      ≡ partsOf (viewOf (objectOf chart lay) (recordAt t) j) (j - 1) sliders
+module _ (os : ℕ → Object) (t : List Float) (n j : ℕ) (part : Part) (sliders : Bool) (one : 1 ≤ j) (inside : j < n) (f : part .first ≡ firstPlace j) (l : part .last ≡ lastPlace j n) where
+  pub parts-part : partsAtPlace os (partAt (partIn t part) part) j sliders ≡ partsAtPlace os (recordAt t) j sliders
   parts-part =
-      parts-same (viewAt (take (16 * e - 16 * a) (drop (16 * a) t)) chart lay (j - a) j) (viewOf (objectOf chart lay) (recordAt t) j) (j - a) (j - 1) sliders
-      (before-part 3 j a (omega arith) one f)
-      (λ k b. view-part t chart lay n j a e k one inside f l (within k b))
+      parts-same (viewOf os (partAt (partIn t part) part) j) (viewOf os (recordAt t) j) (j - 1) (j - 1) sliders refl
+      (λ k b. view-part t j n part one inside f l os 3 k (omega arith) b)
 
-  pub aim-part : aimOf (viewAt (take (16 * e - 16 * a) (drop (16 * a) t)) chart lay (j - a) j) (j - a) sliders
-      ≡ aimOf (viewOf (objectOf chart lay) (recordAt t) j) (j - 1) sliders
+  pub aim-part : aimAtPlace os (partAt (partIn t part) part) j sliders ≡ aimAtPlace os (recordAt t) j sliders
   aim-part =
-      aim-same (viewAt (take (16 * e - 16 * a) (drop (16 * a) t)) chart lay (j - a) j) (viewOf (objectOf chart lay) (recordAt t) j) (j - a) (j - 1) sliders
-      (before-part 3 j a (omega arith) one f)
-      (λ k b. view-part t chart lay n j a e k one inside f l (within k b))
+      aim-same (viewOf os (partAt (partIn t part) part) j) (viewOf os (recordAt t) j) (j - 1) (j - 1) sliders refl
+      (λ k b. view-part t j n part one inside f l os 3 k (omega arith) b)
 
 -- ---- the rule names the side of the last max
 
@@ -117,20 +109,20 @@ rule-max acute wide = go (Ieee.ne acute acute) refl (Ieee.ne wide wide) refl (Ie
 
 -- ---- from what the calls of `parts_of` ensure
 
-module _ (t : List Float) (chart : List ℕ) (lay : Layout) (i j : ℕ) (sliders : Bool) (curr last : Sight) (many : 2 ≤ i)
-    (hc : curr ≡ sightOf (recordAt t i) (objectOf chart lay j)) (hl : last ≡ sightOf (recordAt t (i - 1)) (objectOf chart lay (j - 1))) where
+module _ (os : ℕ → Object) (rs : ℕ → OsuDifficultyObject) (j : ℕ) (sliders : Bool) (curr last : Sight) (many : 2 ≤ j - 1)
+    (hc : curr ≡ sightOf (rs j) (os j)) (hl : last ≡ sightOf (rs (j - 1)) (os (j - 1))) where
   spinner-is : (b : Bool) → (curr .base .spinner || last .base .spinner) ≡ b
-      → (baseOf (objectOf chart lay (j - 0)) .spinner || baseOf (objectOf chart lay (j - 1)) .spinner) ≡ b
+      → (baseOf (os (j - 0)) .spinner || baseOf (os (j - 1)) .spinner) ≡ b
   spinner-is b e = rw sub-zero (rw (hc, hl) at e)
 
-  pub parts-spinner : (curr .base .spinner || last .base .spinner) ≡ true → noParts Spinner ≡ partsOf (viewAt t chart lay i j) i sliders
+  pub parts-spinner : (curr .base .spinner || last .base .spinner) ≡ true → noParts Spinner ≡ partsAtPlace os rs j sliders
   unfolding partsOf
-  parts-spinner e = rw (le-ltb i 2 many, spinner-is true e)
+  parts-spinner e = rw (le-ltb (j - 1) 2 many, spinner-is true e)
 
   pub parts-all : (far : Sight) (d : Float) → (curr .base .spinner || last .base .spinner) ≡ false
-      → far ≡ sightOf (recordAt t (i - 2)) (objectOf chart lay (j - 2))
-      → d ≡ spacingOf (leb 3 i) (baseOf (objectOf chart lay (j - 3)) .pos) (last .base .pos)
-      → bonusesOf curr last far (leb 3 i) d sliders ≡ partsOf (viewAt t chart lay i j) i sliders
+      → far ≡ sightOf (rs (j - 2)) (os (j - 2))
+      → d ≡ spacingOf (leb 3 (j - 1)) (baseOf (os (j - 3)) .pos) (last .base .pos)
+      → bonusesOf curr last far (leb 3 (j - 1)) d sliders ≡ partsAtPlace os rs j sliders
   unfolding partsOf allParts
   parts-all far d e hf hd =
-      rw (le-ltb i 2 many, spinner-is false e, hd, hf, hc, hl, sub-zero i, sub-zero j)
+      rw (le-ltb (j - 1) 2 many, spinner-is false e, hd, hf, hc, hl, sub-zero j)

@@ -1,5 +1,5 @@
 -- evaluators/aim.rs, in its order of operations, over a view: what stands k places back. Definitions only.
-use Prim.Native.Nat.{ℕ}
+use Prim.Native.Nat.{ℕ, _-_}
 use mathlib.Core.Bool.{Bool, cond, _&&_, _||_}
 use lib.Dec.{ltb, leb}
 use lib.Ieee as Ieee
@@ -12,9 +12,10 @@ use Rattle.util.specs.Difficulty.{millisecondsToBpm, reverseLerp, smoothstep, s
 use Rattle.util.specs.FloatExt.{notEq}
 use Rattle.pos.specs.declared.Pos.{Pos}
 use Rattle.pos.specs.Pos.{_⊖₃_, _-ₚ_, lengthOf}
+use Rattle.osu_object.specs.Osu.{Object}
 use Rattle.object.specs.declared.OsuDifficultyObject.{OsuDifficultyObject}
 use Rattle.object.specs.Constants.{normalizedRadius}
-use Rattle.records.specs.Sight.{View}
+use Rattle.records.specs.Sight.{View, viewOf}
 use Rattle.records.specs.declared.Sight.{Sight}
 use Rattle.aim.specs.Constants.{diameter, twoDiameters, threeDiameters, wideAngleMultiplier, acuteAngleMultiplier, sliderMultiplier}
 use Rattle.aim.specs.Constants.{velocityChangeMultiplier, wiggleMultiplier, fiveQuarters, acuteKept, acuteLost, acuteBpm, fullAcuteBpm}
@@ -188,3 +189,10 @@ aimOf v before sliders =
     cond (ltb before 2) zero64
     (cond (v 0 .base .spinner || v 1 .base .spinner) zero64
     (combineOf (allParts v before sliders) sliders))
+
+-- at place j of objects and their records
+abbrev pub partsAtPlace : (ℕ → Object) → (ℕ → OsuDifficultyObject) → ℕ → Bool → AimParts
+partsAtPlace os rs j sliders = partsOf (viewOf os rs j) (j - 1) sliders
+
+abbrev pub aimAtPlace : (ℕ → Object) → (ℕ → OsuDifficultyObject) → ℕ → Bool → Float
+aimAtPlace os rs j sliders = aimOf (viewOf os rs j) (j - 1) sliders

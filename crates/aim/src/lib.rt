@@ -3,15 +3,17 @@ ghost use mathlib.Core.Path.{_≡_};
 ghost use Prim.Native.Nat.{_+_, _*_, _-_, _≤_, _<_};
 ghost use lib.Dec.{leb};
 ghost use lib.ListN.{length};
-ghost use Rattle.osu_object.specs.Osu.{Ready, objectOf};
+ghost use Rattle.objects.specs.Objects.{Holds};
+ghost use Rattle.osu_object.specs.Osu.{objectOf};
 ghost use Rattle.osu_object.specs.Base.{baseOf};
 ghost use Rattle.records.specs.Rows.{recordAt};
-ghost use Rattle.records.specs.Sight.{viewOf, viewAt};
+ghost use Rattle.records.specs.Part.{Covers, partAt};
 ghost use Rattle.aim.specs.Aim.{velocityOf, wideAngle, acuteAngle, acuteRepeated, acuteOf, wideOf, wiggleOf, spacingOf, closeOf, anglesOf};
-ghost use Rattle.aim.specs.Aim.{changeOf, velChange, sliderBonus, ruleOf, noParts, bonusesOf, combineOf, partsOf, aimOf};
+ghost use Rattle.aim.specs.Aim.{changeOf, velChange, sliderBonus, ruleOf, noParts, bonusesOf, combineOf, partsAtPlace, aimAtPlace};
 use object::OsuDifficultyObject;
 use objects::Layout;
 use pos::Pos;
+use records::Part;
 use records::Sight;
 
 const RADIUS: i32 = OsuDifficultyObject::NORMALIZED_RADIUS;
@@ -315,99 +317,96 @@ fn bonuses(
 }
 
 // The distance of the object at j - 3 from the last, which stands at `last`; 0 where it has no record.
-fn spacing(chart: &[u8], lay: Layout, i: usize, j: usize, last: Pos) -> f32
-    requires { ⌜ (i < j) × Ready (now chart) lay × (j < lay .n) ⌝ }
-    ensures { λ r. ⌜ r ≡ spacingOf (leb 3 i) (baseOf (objectOf (now (chart .entry)) lay (j - 3)) .pos) last ⌝ }
+fn spacing(chart: &[u8], lay: Layout, before: usize, j: usize, last: Pos) -> f32
+    requires { ⌜ (before < j) × Holds (now chart) lay × (j < lay .n) ⌝ }
+    ensures { λ r. ⌜ r ≡ spacingOf (leb 3 before) (baseOf (objectOf (now (chart .entry)) lay (j - 3)) .pos) last ⌝ }
 {
-    if 3 <= i {
+    if 3 <= before {
         let far = osu_object::base_at(chart, lay, j - 3);
         return far.pos.sub(last).length();
     }
     0.0
 }
 
-// The parts at place i of a part of the table, which is place j of the chart.
+// The value in parts at place j, from a part of the record table.
 pub fn parts_of(
     t: &[f64],
+    part: Part,
     chart: &[u8],
     lay: Layout,
-    i: usize,
     j: usize,
     with_slider_travel_dist: bool,
 ) -> AimParts
-    requires { ⌜ (i ≤ 32) × (i < j) × (16 * i + 16 ≤ length (now t)) × Ready (now chart) lay × (j < lay .n) ⌝ }
-    ensures { λ r. ⌜ r ≡ partsOf (viewAt (now (t .entry)) (now (chart .entry)) lay i j) i «with_slider_travel_dist» ⌝ }
+    requires { ⌜ Holds (now chart) lay × (j < lay .n) × Covers (now t) part j ⌝ }
+    ensures { λ r. ⌜ r ≡ partsAtPlace (objectOf (now (chart .entry)) lay) (partAt (now (t .entry)) part) j «with_slider_travel_dist» ⌝ }
 {
-    if i < 2 {
+    let before = j - 1;
+    if before < 2 {
         return AimParts::none(AimRule::TooFew);
     }
-    let curr = records::sight_at(t, chart, lay, i, j);
-    let last = records::sight_at(t, chart, lay, i - 1, j - 1);
+    let curr = records::sight_at(t, part, chart, lay, j);
+    let last = records::sight_at(t, part, chart, lay, j - 1);
     if curr.base.spinner | last.base.spinner {
         return AimParts::none(AimRule::Spinner);
     }
-    let last_last = records::sight_at(t, chart, lay, i - 2, j - 2);
-    let distance = spacing(chart, lay, i, j, last.base.pos);
+    let last_last = records::sight_at(t, part, chart, lay, j - 2);
+    let distance = spacing(chart, lay, before, j, last.base.pos);
     bonuses(
         curr,
         last,
         last_last,
-        3 <= i,
+        3 <= before,
         distance,
         with_slider_travel_dist,
     )
 }
 
-// The value at place i of a part of the table, which is place j of the chart.
+// The value at place j, from a part of the record table.
 pub fn evaluate_diff_of(
     t: &[f64],
+    part: Part,
     chart: &[u8],
     lay: Layout,
-    i: usize,
     j: usize,
     with_slider_travel_dist: bool,
 ) -> f64
-    requires { ⌜ (i ≤ 32) × (i < j) × (16 * i + 16 ≤ length (now t)) × Ready (now chart) lay × (j < lay .n) ⌝ }
-    ensures { λ r. ⌜ r ≡ aimOf (viewAt (now (t .entry)) (now (chart .entry)) lay i j) i «with_slider_travel_dist» ⌝ }
+    requires { ⌜ Holds (now chart) lay × (j < lay .n) × Covers (now t) part j ⌝ }
+    ensures { λ r. ⌜ r ≡ aimAtPlace (objectOf (now (chart .entry)) lay) (partAt (now (t .entry)) part) j «with_slider_travel_dist» ⌝ }
 {
-    let parts = parts_of(t, chart, lay, i, j, with_slider_travel_dist);
+    let parts = parts_of(t, part, chart, lay, j, with_slider_travel_dist);
     parts.combine(with_slider_travel_dist)
 }
 
-// The parts at place j of a table of n entries: the evaluator is lent the middle of it.
+// The value in parts at place j of a whole table: the evaluator is lent the middle of it.
 pub fn parts_place(
     t: &[f64],
     chart: &[u8],
     lay: Layout,
-    n: usize,
     j: usize,
     with_slider_travel_dist: bool,
 ) -> AimParts
-    requires { ⌜ (1 ≤ j) × (j < n) × (n ≤ lay .n) × (16 * n ≤ length (now t)) × Ready (now chart) lay ⌝ }
-    ensures { λ r. ⌜ r ≡ partsOf (viewOf (objectOf (now (chart .entry)) lay) (recordAt (now (t .entry))) j) (j - 1) «with_slider_travel_dist» ⌝ }
+    requires { ⌜ Holds (now chart) lay × (1 ≤ j) × (j < lay .n) × (16 * lay .n ≤ length (now t)) ⌝ }
+    ensures { λ r. ⌜ r ≡ partsAtPlace (objectOf (now (chart .entry)) lay) (recordAt (now (t .entry))) j «with_slider_travel_dist» ⌝ }
 {
-    let a = records::first_place(j);
-    let e = records::end_place(j, n);
-    let from = 16 * a;
-    let to = 16 * e;
-    parts_of(&t[from..to], chart, lay, j - a, j, with_slider_travel_dist)
+    let part = records::part_of(j, lay.n);
+    let from = 16 * part.first;
+    let to = 16 * (part.last + 1);
+    parts_of(&t[from..to], part, chart, lay, j, with_slider_travel_dist)
 }
 
-// The value at place j of a table of n entries: the evaluator is lent the middle of it.
+// The value at place j of a whole table: the evaluator is lent the middle of it.
 pub fn evaluate_place(
     t: &[f64],
     chart: &[u8],
     lay: Layout,
-    n: usize,
     j: usize,
     with_slider_travel_dist: bool,
 ) -> f64
-    requires { ⌜ (1 ≤ j) × (j < n) × (n ≤ lay .n) × (16 * n ≤ length (now t)) × Ready (now chart) lay ⌝ }
-    ensures { λ r. ⌜ r ≡ aimOf (viewOf (objectOf (now (chart .entry)) lay) (recordAt (now (t .entry))) j) (j - 1) «with_slider_travel_dist» ⌝ }
+    requires { ⌜ Holds (now chart) lay × (1 ≤ j) × (j < lay .n) × (16 * lay .n ≤ length (now t)) ⌝ }
+    ensures { λ r. ⌜ r ≡ aimAtPlace (objectOf (now (chart .entry)) lay) (recordAt (now (t .entry))) j «with_slider_travel_dist» ⌝ }
 {
-    let a = records::first_place(j);
-    let e = records::end_place(j, n);
-    let from = 16 * a;
-    let to = 16 * e;
-    evaluate_diff_of(&t[from..to], chart, lay, j - a, j, with_slider_travel_dist)
+    let part = records::part_of(j, lay.n);
+    let from = 16 * part.first;
+    let to = 16 * (part.last + 1);
+    evaluate_diff_of(&t[from..to], part, chart, lay, j, with_slider_travel_dist)
 }

@@ -7,17 +7,17 @@ use mathlib.Core.Bool.{Bool, true, false}
 use lib.Dec.{ltb}
 use Rattle.opening.specs.declared.Settings.{Settings}
 use Rattle.osu_object.specs.Osu.{Object}
-use Rattle.osu_object.specs.Base.{baseOf, repeatsOf}
+use Rattle.osu_object.specs.Base.{baseOf, endOf, repeatsOf}
 use Rattle.object.specs.declared.OsuDifficultyObject.{OsuDifficultyObject}
 use Rattle.records.specs.Sight.{sightOf, viewOf}
 use Rattle.records.proofs.Parts.{ltb-iff}
-use Rattle.aim.specs.Aim.{aimOf}
+use Rattle.aim.specs.Aim.{aimAtPlace}
 use Rattle.aim.proofs.Value.{aim-same}
 use Rattle.speed.specs.Speed.{speedAtPlace}
 use Rattle.speed.proofs.Laws.{speed-same}
-use Rattle.rhythm.specs.Rhythm.{cellOf, cellsOf, rhythmAtPlace}
+use Rattle.rhythm.specs.Rhythm.{cellOf, cellsAt, rhythmAtPlace}
 use Rattle.rhythm.proofs.Laws.{rhythm-same}
-use Rattle.flashlight.specs.Flashlight.{evaluatorOf, flashlightOf}
+use Rattle.flashlight.specs.Flashlight.{evaluatorOf, endsOf, flashlightAtPlace}
 use Rattle.flashlight.proofs.Walk.{flashlight-same}
 use Rattle.evaluators.specs.Values.{valuesOf}
 
@@ -25,7 +25,7 @@ sight-same : (r q : OsuDifficultyObject) (o p : Object) → r ≡ q → o ≡ p 
 sight-same r q o p e f = rw (e, f)
 
 cell-same : (r q : OsuDifficultyObject) (o p : Object) → r .«start_time» ≡ q .«start_time» → r .«delta_time» ≡ q .«delta_time» → o ≡ p
-    → cellOf (baseOf o) r ≡ cellOf (baseOf p) q
+    → cellOf (sightOf r o) ≡ cellOf (sightOf q p)
 unfolding cellOf
 cell-same r q o p e d f = rw (e, d, f)
 
@@ -37,13 +37,13 @@ fewer c j i h e = omega arith
 within : (c d n k : ℕ) → c ≤ d → k ≤ min n c → k ≤ min n d
 within c d n k h b = omega arith
 
-one-back : (j c : ℕ) → 1 < j → 1 ≤ c → 1 ≤ min (j - 1) c
+one-back : (j c : ℕ) → 0 < j - 1 → 1 ≤ c → 1 ≤ min (j - 1) c
 one-back j c h one = omega arith
 
-second : (j i : ℕ) → min (j - 1) 32 ≡ min (i - 1) 32 → 1 < i → 1 < j
+second : (j i : ℕ) → min (j - 1) 32 ≡ min (i - 1) 32 → 0 < i - 1 → 0 < j - 1
 second j i e h = omega arith
 
-first : (j i : ℕ) → min (j - 1) 32 ≡ min (i - 1) 32 → i ≤ 1 → j ≤ 1
+first : (j i : ℕ) → min (j - 1) 32 ≡ min (i - 1) 32 → i - 1 ≤ 0 → j - 1 ≤ 0
 first j i e h = omega arith
 
 -- ---- two places with as many records before them that count, from which the same is seen
@@ -65,10 +65,10 @@ module _ (set : Settings) (last end j i : ℕ) (os ps : ℕ → Object) (rs qs :
   view-same : (k : ℕ) → k ≤ min (j - 1) 10 → viewOf os rs j k ≡ viewOf ps qs i k
   view-same k b = sight-same (rs (j - k)) (qs (i - k)) (os (j - k)) (ps (i - k)) (records k b) (objects k (within 10 32 (j - 1) k (omega arith) b))
 
-  cells-same : (k : ℕ) → k ≤ min (j - 1) 32 → cellsOf os rs j k ≡ cellsOf ps qs i k
+  cells-same : (k : ℕ) → k ≤ min (j - 1) 32 → cellsAt os rs j k ≡ cellsAt ps qs i k
   cells-same k b = cell-same (rs (j - k)) (qs (i - k)) (os (j - k)) (ps (i - k)) (starts k b) (deltas k b) (objects k b)
 
-  aim-here : (sliders : Bool) → aimOf (viewOf os rs j) (j - 1) sliders ≡ aimOf (viewOf ps qs i) (i - 1) sliders
+  aim-here : (sliders : Bool) → aimAtPlace os rs j sliders ≡ aimAtPlace ps qs i sliders
   aim-here sliders =
       aim-same (viewOf os rs j) (viewOf ps qs i) (j - 1) (i - 1) sliders (fewer 3 j i (omega arith) before)
       (λ k b. view-same k (within 3 10 (j - 1) k (omega arith) b))
@@ -77,7 +77,7 @@ module _ (set : Settings) (last end j i : ℕ) (os ps : ℕ → Object) (rs qs :
   speed-here =
       speed-same os ps rs qs last end j i (set .«hit_window») (set .autopilot)
       record-here
-      (ltb-iff 1 j 1 i (second j i before) (first j i before))
+      (ltb-iff 0 (j - 1) 0 (i - 1) (second j i before) (first j i before))
       (λ h. ap (λ (r : OsuDifficultyObject). r .«travel_dist») (records 1 (one-back j 10 h (omega arith))))
       has
       next
@@ -86,12 +86,12 @@ module _ (set : Settings) (last end j i : ℕ) (os ps : ℕ → Object) (rs qs :
   rhythm-here : rhythmAtPlace os rs last j (set .«hit_window») ≡ rhythmAtPlace ps qs end i (set .«hit_window»)
   rhythm-here = rhythm-same os ps rs qs last end j i (set .«hit_window») before cells-same has next
 
-  flashlight-here : flashlightOf (evaluatorOf set) (viewOf os rs j) (j - 1) (repeatsOf (os j)) (set .hidden)
-      ≡ flashlightOf (evaluatorOf set) (viewOf ps qs i) (i - 1) (repeatsOf (ps i)) (set .hidden)
+  flashlight-here : flashlightAtPlace (evaluatorOf set) os rs j (set .hidden) ≡ flashlightAtPlace (evaluatorOf set) ps qs i (set .hidden)
   flashlight-here =
-      flashlight-same (evaluatorOf set) (viewOf os rs j) (viewOf ps qs i) (j - 1) (i - 1) (repeatsOf (os j)) (repeatsOf (ps i)) (set .hidden)
+      flashlight-same (evaluatorOf set) (viewOf os rs j) (viewOf ps qs i) (endsOf os j) (endsOf ps i) (repeatsOf (os j)) (repeatsOf (ps i)) (j - 1) (i - 1) (set .hidden)
       (fewer 10 j i (omega arith) before)
       view-same
+      (λ k b. ap endOf (objects k (within 10 32 (j - 1) k (omega arith) b)))
       (λ h. ap repeatsOf object-here)
 
   pub values-same : valuesOf set last os rs j ≡ valuesOf set end ps qs i

@@ -1,19 +1,18 @@
 -- Document 01, "The values": the five values of a place, from what its evaluators may see. Definitions only.
-use Prim.Native.Nat.{ℕ, _+_, _-_, min}
+use Prim.Native.Nat.{ℕ}
 use mathlib.Core.Bool.{true, false}
 use mathlib.Core.List.{List, [], _∷_}
 use lib.Ieee.{Float}
 use Rattle.opening.specs.declared.Settings.{Settings}
 use Rattle.objects.specs.declared.Layout.{Layout}
 use Rattle.osu_object.specs.Osu.{Object, objectOf}
-use Rattle.osu_object.specs.Base.{repeatsOf}
 use Rattle.object.specs.declared.OsuDifficultyObject.{OsuDifficultyObject}
 use Rattle.records.specs.Rows.{recordAt}
-use Rattle.records.specs.Sight.{viewOf}
-use Rattle.aim.specs.Aim.{aimOf}
+use Rattle.records.specs.Part.{lastPlace}
+use Rattle.aim.specs.Aim.{aimAtPlace}
 use Rattle.speed.specs.Speed.{speedAtPlace}
 use Rattle.rhythm.specs.Rhythm.{rhythmAtPlace}
-use Rattle.flashlight.specs.Flashlight.{evaluatorOf, flashlightOf}
+use Rattle.flashlight.specs.Flashlight.{evaluatorOf, flashlightAtPlace}
 use Rattle.evaluators.specs.declared.Values.{Values}
 
 -- a row of the value table: aim, aim without sliders, speed, rhythm, flashlight
@@ -23,16 +22,16 @@ rowOf v = v .aim ∷ v .«aim_no_sliders» ∷ v .speed ∷ v .rhythm ∷ v .fla
 -- the values of place j, of objects and their records by place, where `last` is the last place that `next` reaches
 unfoldable pub valuesOf : Settings → ℕ → (ℕ → Object) → (ℕ → OsuDifficultyObject) → ℕ → List Float
 valuesOf set last os rs j =
-    aimOf (viewOf os rs j) (j - 1) true
-    ∷ aimOf (viewOf os rs j) (j - 1) false
+    aimAtPlace os rs j true
+    ∷ aimAtPlace os rs j false
     ∷ speedAtPlace os rs last j (set .«hit_window») (set .autopilot)
     ∷ rhythmAtPlace os rs last j (set .«hit_window»)
-    ∷ flashlightOf (evaluatorOf set) (viewOf os rs j) (j - 1) (repeatsOf (os j)) (set .hidden)
+    ∷ flashlightAtPlace (evaluatorOf set) os rs j (set .hidden)
     ∷ []
 
 -- the last place that `next` reaches from place j of n
 abbrev pub reachOf : ℕ → ℕ → ℕ
-reachOf n j = min (j + 1) (n - 1)
+reachOf n j = lastPlace j n
 
 -- of a chart's objects and the records in a table
 abbrev pub valuesIn : Settings → List ℕ → Layout → List Float → ℕ → List Float

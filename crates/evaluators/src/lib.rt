@@ -21,14 +21,13 @@ pub fn values_at(t: &[f64], chart: &[u8], lay: Layout, set: Settings, j: usize) 
     requires { ⌜ Ready (now chart) lay × (1 ≤ j) × (j < lay .n) × (16 * lay .n ≤ length (now t)) ⌝ }
     ensures { λ r. ⌜ rowOf r ≡ valuesIn set (now (chart .entry)) lay (now (t .entry)) j ⌝ }
 {
-    let n = lay.n;
     let light = flashlight::evaluator_of(set);
     Values {
-        aim: aim::evaluate_place(t, chart, lay, n, j, true),
-        aim_no_sliders: aim::evaluate_place(t, chart, lay, n, j, false),
+        aim: aim::evaluate_place(t, chart, lay, j, true),
+        aim_no_sliders: aim::evaluate_place(t, chart, lay, j, false),
         speed: speed::evaluate_place(t, chart, lay, j, set.hit_window, set.autopilot),
         rhythm: rhythm::evaluate_place(t, chart, lay, j, set.hit_window),
-        flashlight: light.evaluate_place(t, chart, lay, n, j, set.hidden),
+        flashlight: light.evaluate_place(t, chart, lay, j, set.hidden),
     }
 }
 

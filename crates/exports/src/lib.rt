@@ -73,9 +73,8 @@ fn code(number: usize, place: usize) -> u64 {
 fn value_at(which: usize, t: &[f64], chart: &[u8], lay: Layout, set: Settings, j: usize) -> f64
     requires { ⌜ Ready (now chart) lay × (1 ≤ j) × (j < lay .n) × (16 * lay .n ≤ length (now t)) ⌝ }
 {
-    let n = lay.n;
     if which == 0 {
-        return aim::evaluate_place(t, chart, lay, n, j, true);
+        return aim::evaluate_place(t, chart, lay, j, true);
     }
     if which == 1 {
         return speed::evaluate_place(t, chart, lay, j, set.hit_window, set.autopilot);
@@ -84,7 +83,7 @@ fn value_at(which: usize, t: &[f64], chart: &[u8], lay: Layout, set: Settings, j
         return rhythm::evaluate_place(t, chart, lay, j, set.hit_window);
     }
     let light = flashlight::evaluator_of(set);
-    light.evaluate_place(t, chart, lay, n, j, set.hidden)
+    light.evaluate_place(t, chart, lay, j, set.hidden)
 }
 
 fn sum_values(which: usize, t: &[f64], chart: &[u8], lay: Layout, set: Settings) -> f64

@@ -1,5 +1,5 @@
 -- evaluators/flashlight.rs, in its order of operations, over a view: what stands k places back. Definitions only.
-use Prim.Native.Nat.{ℕ, zero, suc, _+_, min}
+use Prim.Native.Nat.{ℕ, zero, suc, _+_, _-_, min}
 use mathlib.Core.Bool.{Bool, cond, _&&_}
 use lib.Dec.{ltb, eqb}
 use lib.IntN.{pos}
@@ -10,9 +10,12 @@ use Rattle.floats.specs.Compare.{maxOf, minOf, absOf}
 use Rattle.elementary.specs.Power.{powerOf}
 use Rattle.opening.specs.declared.Settings.{Settings}
 use Rattle.pos.specs.Pos.{_-ₚ_, lengthOf}
+use Rattle.pos.specs.declared.Pos.{Pos}
+use Rattle.osu_object.specs.Osu.{Object}
+use Rattle.osu_object.specs.Base.{endOf, repeatsOf}
 use Rattle.object.specs.declared.OsuDifficultyObject.{OsuDifficultyObject}
 use Rattle.object.specs.Reading.{opacityAt}
-use Rattle.records.specs.Sight.{View}
+use Rattle.records.specs.Sight.{View, viewOf}
 use Rattle.records.specs.declared.Sight.{Sight}
 use Rattle.flashlight.specs.Constants.{scaledRadius, maxOpacityBonus, hiddenBonus, minVelocity, sliderMultiplier, minAngleMultiplier}
 use Rattle.flashlight.specs.Constants.{seenDist, stackDist, sameAngle, repeatLoss, history}
@@ -56,11 +59,11 @@ repeatedOf count obj curr i =
 unfoldable pub freshState : FlashlightState
 freshState = record { «small_dist_nerf» = one64; «cumulative_strain_time» = zero64; result = zero64; «angle_repeat_count» = zero64 }
 
--- turn i: `obj` stands i + 1 places back, `last` is the record after it
-unfoldable pub stepOf : FlashlightEvaluator → FlashlightState → Sight → OsuDifficultyObject → Sight → ℕ → Bool → FlashlightState
-stepOf e s curr last obj i hidden =
+-- turn i: `obj` stands i + 1 places back and ends at `end`, `last` is the record after it
+unfoldable pub stepOf : FlashlightEvaluator → FlashlightState → Sight → OsuDifficultyObject → Sight → Pos → ℕ → Bool → FlashlightState
+stepOf e s curr last obj end i hidden =
     let time = s .«cumulative_strain_time» ⊕ last .«adjusted_delta_time» in
-    let jump = lengthOf (curr .base .pos -ₚ obj .base .end) in
+    let jump = lengthOf (curr .base .pos -ₚ end) in
     let opacity = opacityBonus e (curr .base .«start_time») (obj .base .«start_time») hidden in
     cond (obj .base .spinner)
     (record {
@@ -77,9 +80,9 @@ stepOf e s curr last obj i hidden =
     })
 
 -- after turns 0 to n - 1; in turn i `previous(i)` stands i + 1 places back
-unfoldable pub turnsOf : FlashlightEvaluator → View → Bool → ℕ → FlashlightState
-turnsOf e v hidden zero = freshState
-turnsOf e v hidden (suc i) = stepOf e (turnsOf e v hidden i) (v 0) (v i .diff) (v (i + 1)) i hidden
+unfoldable pub turnsOf : FlashlightEvaluator → View → (ℕ → Pos) → Bool → ℕ → FlashlightState
+turnsOf e v ends hidden zero = freshState
+turnsOf e v ends hidden (suc i) = stepOf e (turnsOf e v ends hidden i) (v 0) (v i .diff) (v (i + 1)) (ends (i + 1)) i hidden
 
 -- ---- after the loop
 
@@ -102,8 +105,19 @@ valueOf e s curr slider repeats hidden =
     ⊗ (minAngleMultiplier ⊕ (one64 ⊖ minAngleMultiplier) ⊘ (s .«angle_repeat_count» ⊕ one64))
     ⊕ sliderBonus e curr slider repeats ⊗ sliderMultiplier
 
--- `evaluate_diff_of`, where `before` records precede; the repeats are the current object's
-unfoldable pub flashlightOf : FlashlightEvaluator → View → ℕ → ℕ → Bool → Float
-flashlightOf e v before repeats hidden =
+-- `evaluate_diff_of`, where `before` records precede: with where the objects end, k places back, and how many repeats the current one has
+unfoldable pub flashlightOf : FlashlightEvaluator → View → (ℕ → Pos) → ℕ → ℕ → Bool → Float
+flashlightOf e v ends repeats before hidden =
     cond (v 0 .base .spinner) zero64
-    (valueOf e (turnsOf e v hidden (min before history)) (v 0 .diff) (v 0 .base .slider) repeats hidden)
+    (valueOf e (turnsOf e v ends hidden (min before history)) (v 0 .diff) (v 0 .base .slider) repeats hidden)
+
+-- where the objects end, from place j back
+abbrev pub endsOf : (ℕ → Object) → ℕ → ℕ → Pos
+endsOf os j = λ k. endOf (os (j - k))
+
+-- at place j of objects and their records: the walk's first turns, and the value
+abbrev pub turnsAtPlace : FlashlightEvaluator → (ℕ → Object) → (ℕ → OsuDifficultyObject) → ℕ → Bool → ℕ → FlashlightState
+turnsAtPlace e os rs j hidden n = turnsOf e (viewOf os rs j) (endsOf os j) hidden n
+
+abbrev pub flashlightAtPlace : FlashlightEvaluator → (ℕ → Object) → (ℕ → OsuDifficultyObject) → ℕ → Bool → Float
+flashlightAtPlace e os rs j hidden = flashlightOf e (viewOf os rs j) (endsOf os j) (repeatsOf (os j)) (j - 1) hidden

@@ -3,15 +3,16 @@ ghost use mathlib.Core.Path.{_≡_};
 ghost use Prim.Native.Nat.{_+_, _*_, _-_, _≤_, _<_, min};
 ghost use lib.ListN.{length};
 ghost use Rattle.osu_object.specs.Osu.{Ready, objectOf};
-ghost use Rattle.osu_object.specs.Base.{repeatsOf};
 ghost use Rattle.records.specs.Rows.{recordAt};
-ghost use Rattle.records.specs.Sight.{viewOf, viewAt};
+ghost use Rattle.records.specs.Part.{Covers, partAt};
 ghost use Rattle.flashlight.specs.Constants.{history};
-ghost use Rattle.flashlight.specs.Flashlight.{evaluatorOf, opacityBonus, smallDistNerf, addedOf, repeatedOf, freshState, stepOf, turnsOf};
-ghost use Rattle.flashlight.specs.Flashlight.{hiddenOf, sharedOf, sliderBonus, valueOf, flashlightOf};
+ghost use Rattle.flashlight.specs.Flashlight.{evaluatorOf, opacityBonus, smallDistNerf, addedOf, repeatedOf, freshState, stepOf, turnsAtPlace};
+ghost use Rattle.flashlight.specs.Flashlight.{hiddenOf, sharedOf, sliderBonus, valueOf, flashlightAtPlace};
 use object::OsuDifficultyObject;
 use objects::Layout;
 use opening::Settings;
+use pos::Pos;
+use records::Part;
 use records::Sight;
 
 pub struct FlashlightEvaluator {
@@ -130,18 +131,19 @@ impl FlashlightEvaluator {
         stack_nerf * opacity_bonus * self.scaling_factor * jump_dist / time
     }
 
-    // One turn: obj stands i + 1 places back, last is the record after it.
+    // One turn: obj stands i + 1 places back and ends at `end`, last is the record after it.
     fn step(
         self,
         s: FlashlightState,
         curr: Sight,
         last: OsuDifficultyObject,
         obj: Sight,
+        end: Pos,
         i: usize,
         hidden: bool,
     ) -> FlashlightState
         requires { ⌜ i ≤ history ⌝ }
-        ensures { λ r. ⌜ r ≡ stepOf self s curr last obj i hidden ⌝ }
+        ensures { λ r. ⌜ r ≡ stepOf self s curr last obj end i hidden ⌝ }
     {
         let time = s.cumulative_strain_time + last.adjusted_delta_time;
         let o = obj.diff;
@@ -155,7 +157,7 @@ impl FlashlightEvaluator {
                 angle_repeat_count: s.angle_repeat_count,
             };
         }
-        let jump_dist = floats::widen(base.pos.sub(obj_base.end).length());
+        let jump_dist = floats::widen(base.pos.sub(end).length());
         let opacity_bonus = self.opacity_bonus(base.start_time, obj_base.start_time, hidden);
         let added = self.added(o.lazy_jump_dist, jump_dist, opacity_bonus, time);
         FlashlightState {
@@ -170,23 +172,25 @@ impl FlashlightEvaluator {
     fn walk(
         self,
         t: &[f64],
+        part: Part,
         chart: &[u8],
         lay: Layout,
-        i: usize,
         j: usize,
         n: usize,
         hidden: bool,
     ) -> FlashlightState
-        requires { ⌜ (n ≤ i) × (n ≤ history) × (i ≤ 32) × (i < j) × (16 * i + 16 ≤ length (now t)) × Ready (now chart) lay × (j < lay .n) ⌝ }
-        ensures { λ r. ⌜ r ≡ turnsOf self (viewAt (now (t .entry)) (now (chart .entry)) lay i j) hidden n ⌝ }
+        requires { ⌜ (n ≤ j - 1) × (n ≤ history) × Ready (now chart) lay × (j < lay .n) × Covers (now t) part j ⌝ }
+        ensures { λ r. ⌜ r ≡ turnsAtPlace self (objectOf (now (chart .entry)) lay) (partAt (now (t .entry)) part) j hidden n ⌝ }
     {
-        let curr = records::sight_at(t, chart, lay, i, j);
+        let curr = records::sight_at(t, part, chart, lay, j);
         let mut last = curr.diff;
         let mut s = FlashlightState::new();
         let mut k: usize = 0;
         while k < n {
-            let obj = records::sight_at(t, chart, lay, i - (k + 1), j - (k + 1));
-            s = self.step(s, curr, last, obj, k, hidden);
+            let p = j - (k + 1);
+            let obj = records::sight_at(t, part, chart, lay, p);
+            let end = osu_object::end_at(chart, lay, p);
+            s = self.step(s, curr, last, obj, end, k, hidden);
             last = obj.diff;
             k += 1;
         }
@@ -233,46 +237,37 @@ impl FlashlightEvaluator {
             + bonus * Self::SLIDER_MULTIPLIER
     }
 
-    // The value at place i of a part of the table, which is place j of the chart.
+    // The value at place j, from a part of the record table.
     pub fn evaluate_diff_of(
         self,
         t: &[f64],
+        part: Part,
         chart: &[u8],
         lay: Layout,
-        i: usize,
         j: usize,
         hidden: bool,
     ) -> f64
-        requires { ⌜ (i ≤ 32) × (i < j) × (16 * i + 16 ≤ length (now t)) × Ready (now chart) lay × (j < lay .n) ⌝ }
-        ensures { λ r. ⌜ r ≡ flashlightOf self (viewAt (now (t .entry)) (now (chart .entry)) lay i j) i (repeatsOf (objectOf (now (chart .entry)) lay j)) hidden ⌝ }
+        requires { ⌜ Ready (now chart) lay × (j < lay .n) × Covers (now t) part j ⌝ }
+        ensures { λ r. ⌜ r ≡ flashlightAtPlace self (objectOf (now (chart .entry)) lay) (partAt (now (t .entry)) part) j hidden ⌝ }
     {
-        let curr = records::sight_at(t, chart, lay, i, j);
+        let curr = records::sight_at(t, part, chart, lay, j);
         let base = curr.base;
         if base.spinner {
             return 0.0;
         }
-        let s = self.walk(t, chart, lay, i, j, turns(i), hidden);
+        let s = self.walk(t, part, chart, lay, j, turns(j - 1), hidden);
         let repeat_count = osu_object::repeats_at(chart, lay, j);
         self.value(s, curr.diff, base.slider, repeat_count, hidden)
     }
 
-    // The value at place j of a table of n entries: the evaluator is lent the middle of it.
-    pub fn evaluate_place(
-        self,
-        t: &[f64],
-        chart: &[u8],
-        lay: Layout,
-        n: usize,
-        j: usize,
-        hidden: bool,
-    ) -> f64
-        requires { ⌜ (1 ≤ j) × (j < n) × (n ≤ lay .n) × (16 * n ≤ length (now t)) × Ready (now chart) lay ⌝ }
-        ensures { λ r. ⌜ r ≡ flashlightOf self (viewOf (objectOf (now (chart .entry)) lay) (recordAt (now (t .entry))) j) (j - 1) (repeatsOf (objectOf (now (chart .entry)) lay j)) hidden ⌝ }
+    // The value at place j of a whole table: the evaluator is lent the middle of it.
+    pub fn evaluate_place(self, t: &[f64], chart: &[u8], lay: Layout, j: usize, hidden: bool) -> f64
+        requires { ⌜ Ready (now chart) lay × (1 ≤ j) × (j < lay .n) × (16 * lay .n ≤ length (now t)) ⌝ }
+        ensures { λ r. ⌜ r ≡ flashlightAtPlace self (objectOf (now (chart .entry)) lay) (recordAt (now (t .entry))) j hidden ⌝ }
     {
-        let a = records::first_place(j);
-        let e = records::end_place(j, n);
-        let from = 16 * a;
-        let to = 16 * e;
-        self.evaluate_diff_of(&t[from..to], chart, lay, j - a, j, hidden)
+        let part = records::part_of(j, lay.n);
+        let from = 16 * part.first;
+        let to = 16 * (part.last + 1);
+        self.evaluate_diff_of(&t[from..to], part, chart, lay, j, hidden)
     }
 }

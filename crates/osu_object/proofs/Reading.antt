@@ -7,7 +7,7 @@ use Rattle.objects.specs.Objects.{fieldsOf}
 use Rattle.objects.specs.declared.Fields.{Fields}
 use Rattle.objects.specs.declared.Layout.{Layout}
 use Rattle.osu_object.specs.Osu.{objectOf, osuObject, kindOf, runsOf, isSlider, isSpinner, Slides, Ready, nestedList, stackedPos, stackedEndPos, repeatCount}
-use Rattle.osu_object.specs.Base.{baseOf, repeatsOf}
+use Rattle.osu_object.specs.Base.{baseOf, endOf, repeatsOf}
 use Rattle.osu_object.specs.declared.OsuObject.{OsuObject}
 use Rattle.osu_object.specs.declared.Runs.{Runs}
 
@@ -23,11 +23,13 @@ module _ (s : List ℕ) (lay : Layout) (i : ℕ) (f : Fields) (g : f ≡ fieldsO
       subst (λ (r : Runs). Slides s lay r) (sym (k ∙ ap runsOf g))
       (y .slides i l (sym (ap (λ (o : OsuObject). isSlider (o .kind)) e ∙ ap (λ (f : Fields). isSlider (kindOf f)) g) ∙ h))
 
-  pub base-from : (r : Runs) → r ≡ runsOf f
-      → record { slider = isSlider (o .kind); spinner = isSpinner (o .kind); «start_time» = o .«start_time»; pos = stackedPos o; end = stackedEndPos o (nestedList s lay r) }
-      ≡ baseOf (objectOf s lay i)
+  pub base-from : record { slider = isSlider (o .kind); spinner = isSpinner (o .kind); «start_time» = o .«start_time»; pos = stackedPos o } ≡ baseOf (objectOf s lay i)
   unfolding baseOf objectOf
-  base-from r k = simp (k, e, g)
+  base-from = simp (e, g)
+
+  pub end-from : (r : Runs) → r ≡ runsOf f → stackedEndPos o (nestedList s lay r) ≡ endOf (objectOf s lay i)
+  unfolding objectOf
+  end-from r k = simp (k, e, g)
 
   pub repeats-from : (r : Runs) → r ≡ runsOf f → isSlider (o .kind) ≡ true → repeatCount (nestedList s lay r) ≡ repeatsOf (objectOf s lay i)
   unfolding repeatsOf objectOf

@@ -2,6 +2,7 @@
 use Prim.Native.Nat.{ℕ}
 use mathlib.Core.Bool.{cond}
 use Rattle.osu_object.specs.Osu.{Object, isSlider, isSpinner, stackedPos, stackedEndPos, repeatCount}
+use Rattle.pos.specs.declared.Pos.{Pos}
 use Rattle.osu_object.specs.declared.BaseObject.{BaseObject}
 
 unfoldable pub baseOf : Object → BaseObject
@@ -10,8 +11,11 @@ baseOf o = record {
   spinner = isSpinner (o .base .kind);
   «start_time» = o .base .«start_time»;
   pos = stackedPos (o .base);
-  end = stackedEndPos (o .base) (o .nested);
 }
+
+-- where it ends: of a slider this is read from its nested entries
+abbrev pub endOf : Object → Pos
+endOf o = stackedEndPos (o .base) (o .nested)
 
 -- the number of repeats, 0 where it is no slider
 unfoldable pub repeatsOf : Object → ℕ

@@ -3,9 +3,10 @@ ghost use mathlib.Core.Path.{_≡_};
 ghost use mathlib.Core.Bool.{true};
 ghost use Prim.Native.Nat.{_+_, _-_, _<_};
 ghost use lib.ListN.{length};
+ghost use Rattle.objects.specs.Objects.{Holds};
 ghost use Rattle.osu_object.specs.Osu.{kindOf, osuObject, runsOf, objectOf, stackedPos, isSlider, isSpinner};
 ghost use Rattle.osu_object.specs.Osu.{Slides, Ready, nestedList, pointList, nestedIn, pointIn, isRepeat, repeatCount, tailOf, endPos, stackedEndPos};
-ghost use Rattle.osu_object.specs.Base.{baseOf, repeatsOf};
+ghost use Rattle.osu_object.specs.Base.{baseOf, endOf, repeatsOf};
 ghost use Rattle.osu_object.specs.Path.{reaches, segmentOf, between, positionAt};
 use entries::Nested;
 use entries::Point;
@@ -228,29 +229,36 @@ pub fn position_at(chart: &[u8], lay: Layout, r: Runs, progress: f64) -> Pos
     on_line(p0, p1, d)
 }
 
-// What the evaluators read of the object at a place; both positions are stacked.
+// What the evaluators read of an object beside its nested entries; the position is stacked.
 pub struct BaseObject {
     pub slider: bool,
     pub spinner: bool,
     pub start_time: f64,
     pub pos: Pos,
-    pub end: Pos,
 }
 
+// The base object at a place.
 pub fn base_at(chart: &[u8], lay: Layout, j: usize) -> BaseObject
-    requires { ⌜ Ready (now chart) lay × (j < lay .n) ⌝ }
+    requires { ⌜ Holds (now chart) lay × (j < lay .n) ⌝ }
     ensures { λ b. ⌜ b ≡ baseOf (objectOf (now (chart .entry)) lay j) ⌝ }
 {
-    let f = objects::fields_of(chart, lay, j);
-    let o = OsuObject::new(f);
-    let r = Runs::new(f);
+    let o = OsuObject::new(objects::fields_of(chart, lay, j));
     BaseObject {
         slider: o.is_slider(),
         spinner: o.is_spinner(),
         start_time: o.start_time,
         pos: o.stacked_pos(),
-        end: o.stacked_end_pos(chart, lay, r),
     }
+}
+
+// Where the object at a place ends, stacked: a slider at its tail.
+pub fn end_at(chart: &[u8], lay: Layout, j: usize) -> Pos
+    requires { ⌜ Ready (now chart) lay × (j < lay .n) ⌝ }
+    ensures { λ p. ⌜ p ≡ endOf (objectOf (now (chart .entry)) lay j) ⌝ }
+{
+    let f = objects::fields_of(chart, lay, j);
+    let o = OsuObject::new(f);
+    o.stacked_end_pos(chart, lay, Runs::new(f))
 }
 
 // The number of repeats of the object at a place, 0 where it is no slider.

@@ -13,21 +13,21 @@ use Rattle.tables.specs.Parts.{fill}
 use Rattle.tables.specs.Rows.{row-fill-in}
 use Rattle.objects.specs.declared.Layout.{Layout}
 use Rattle.osu_object.specs.Osu.{Object, objectOf}
-use Rattle.osu_object.specs.Base.{baseOf}
+use Rattle.osu_object.specs.Base.{repeatsOf}
 use Rattle.object.specs.declared.OsuDifficultyObject.{OsuDifficultyObject as Record}
 use Rattle.records.specs.Rows.{rowOf, recordAt as entryAt}
 use Rattle.records.proofs.Laws.{row-length, record-is}
 use Rattle.records.specs.Part.{firstPlace, partAt}
-use Rattle.records.specs.Sight.{sightOf, viewOf, viewAt}
-use Rattle.records.proofs.Parts.{before-part}
-use Rattle.aim.specs.Aim.{aimOf}
+use Rattle.records.specs.Sight.{sightOf, viewOf}
+use Rattle.records.specs.declared.Part.{Part}
+use Rattle.aim.specs.Aim.{aimAtPlace}
 use Rattle.aim.proofs.Value.{aim-same}
 use Rattle.speed.specs.Speed.{speedAtPlace}
 use Rattle.speed.proofs.Laws.{speed-same}
 use Rattle.rhythm.specs.Rhythm.{cellOf, rhythmAtPlace}
 use Rattle.rhythm.proofs.Laws.{rhythm-same}
 use Rattle.flashlight.specs.declared.FlashlightEvaluator.{FlashlightEvaluator}
-use Rattle.flashlight.specs.Flashlight.{flashlightOf}
+use Rattle.flashlight.specs.Flashlight.{endsOf, flashlightAtPlace}
 use Rattle.flashlight.proofs.Walk.{flashlight-same}
 use Rattle.outer.specs.Records.{recordOf, windowOf, slotAt, inWindow, lastOf, InF32, InF32s}
 use Rattle.outer.proofs.Slots.{slot-is}
@@ -56,7 +56,7 @@ here-from j one = omega arith
 here-to : (j : ℕ) → j < firstPlace j + 34
 here-to j = omega arith
 
-last-from : (j : ℕ) → 1 < j → firstPlace j ≤ j - 1
+last-from : (j : ℕ) → 0 < j - 1 → firstPlace j ≤ j - 1
 last-from j h = omega arith
 
 slot-of : (a p : ℕ) → p < a + 34 → p - a < 34
@@ -85,7 +85,7 @@ module _ (os : ℕ → Object) (rs qs : ℕ → Record) (j : ℕ) (one : 1 ≤ j
   next-delta : rs (j + 1) .«delta_time» ≡ qs (j + 1) .«delta_time»
   next-delta = ap (λ (r : Record). r .«delta_time») (same (j + 1) (next-from j one) (next-to j))
 
-  pub aim-seen : (sliders : Bool) → aimOf (viewOf os rs j) (j - 1) sliders ≡ aimOf (viewOf os qs j) (j - 1) sliders
+  pub aim-seen : (sliders : Bool) → aimAtPlace os rs j sliders ≡ aimAtPlace os qs j sliders
   aim-seen sliders = aim-same (viewOf os rs j) (viewOf os qs j) (j - 1) (j - 1) sliders refl (λ k b. view-back 3 k (omega arith) b)
 
   pub speed-seen : (last end : ℕ) → ltb j last ≡ ltb j end → (window : Float) (autopilot : Bool)
@@ -103,14 +103,14 @@ module _ (os : ℕ → Object) (rs qs : ℕ → Record) (j : ℕ) (one : 1 ≤ j
   rhythm-seen last end has window =
       rhythm-same os os rs qs last end j j window
       refl
-      (λ k b. ap (λ (r : Record). cellOf (baseOf (os (j - k))) r) (record-back 32 k (omega arith) b))
+      (λ k b. ap cellOf (view-back 32 k (omega arith) b))
       has
       (λ h. next-delta)
 
-  pub flashlight-seen : (e : FlashlightEvaluator) (repeats : ℕ) (hidden : Bool)
-      → flashlightOf e (viewOf os rs j) (j - 1) repeats hidden ≡ flashlightOf e (viewOf os qs j) (j - 1) repeats hidden
-  flashlight-seen e repeats hidden =
-      flashlight-same e (viewOf os rs j) (viewOf os qs j) (j - 1) (j - 1) repeats repeats hidden refl (λ k b. view-back 10 k (omega arith) b) (λ h. refl)
+  pub flashlight-seen : (e : FlashlightEvaluator) (hidden : Bool) → flashlightAtPlace e os rs j hidden ≡ flashlightAtPlace e os qs j hidden
+  flashlight-seen e hidden =
+      flashlight-same e (viewOf os rs j) (viewOf os qs j) (endsOf os j) (endsOf os j) (repeatsOf (os j)) (repeatsOf (os j)) (j - 1) (j - 1) hidden refl
+      (λ k b. view-back 10 k (omega arith) b) (λ k b. refl) (λ h. refl)
 
 -- ---- the window of a slice agrees with the slice
 
@@ -127,44 +127,27 @@ table-at w t room k l h =
     record-is (tableOf w t) k (slotAt w k) (record { x = narrow-widened binary32 _ (h .x); y = narrow-widened binary32 _ (h .y) })
     (row-fill-in 16 (λ i. rowOf (slotAt w i)) (λ i. row-length (slotAt w i)) k 0 34 t (λ _. room) (omega arith) (omega arith))
 
-table-agrees : (w : List Record) (t : List Float) (j a : ℕ) → 544 ≤ length t → InF32s w → a ≡ firstPlace j → Agree j (partAt (tableOf w t) a) (inWindow w j)
-table-agrees w t j a room ok f p h l =
-    ap (λ (b : ℕ). partAt (tableOf w t) b p) f
-    ∙ table-at w t room (p - firstPlace j) (slot-of (firstPlace j) p l) (ok (p - firstPlace j) (slot-of (firstPlace j) p l))
-
--- ---- the evaluators over that table
-
-back-twice : (j a k : ℕ) → j - a - k ≡ j - k - a
-back-twice j a k = omega arith
-
-part-view : (t : List Float) (chart : List ℕ) (lay : Layout) (j a k : ℕ) → viewAt t chart lay (j - a) j k ≡ viewOf (objectOf chart lay) (partAt t a) j k
-part-view t chart lay j a k = ap (λ (i : ℕ). sightOf (entryAt t i) (objectOf chart lay (j - k))) (back-twice j a k)
-
-module _ (chart : List ℕ) (lay : Layout) (w : List Record) (t u : List Float) (j a : ℕ)
-    (one : 1 ≤ j) (f : a ≡ firstPlace j) (room : 544 ≤ length t) (ok : InF32s w) (put : u ≡ tableOf w t) where
+module _ (chart : List ℕ) (lay : Layout) (w : List Record) (t u : List Float) (j : ℕ) (part : Part)
+    (one : 1 ≤ j) (f : part .first ≡ firstPlace j) (room : 544 ≤ length t) (ok : InF32s w) (put : u ≡ tableOf w t) where
   abbrev os : ℕ → Object
   os = objectOf chart lay
 
-  agrees : Agree j (partAt u a) (inWindow w j)
-  agrees p h l = ap (λ (v : List Float). partAt v a p) put ∙ table-agrees w t j a room ok f p h l
+  agrees : Agree j (partAt u part) (inWindow w j)
+  agrees p h l =
+      ap (λ (v : List Float). partAt v part p) put ∙ ap (λ (a : ℕ). entryAt (tableOf w t) (p - a)) f
+      ∙ table-at w t room (p - firstPlace j) (slot-of (firstPlace j) p l) (ok (p - firstPlace j) (slot-of (firstPlace j) p l))
 
-  pub aim-table : (sliders : Bool) → aimOf (viewAt u chart lay (j - a) j) (j - a) sliders ≡ aimOf (viewOf os (inWindow w j) j) (j - 1) sliders
-  aim-table sliders =
-      aim-same (viewAt u chart lay (j - a) j) (viewOf os (partAt u a) j) (j - a) (j - 1) sliders (before-part 3 j a (omega arith) one f)
-      (λ k b. part-view u chart lay j a k)
-      ∙ aim-seen os (partAt u a) (inWindow w j) j one agrees sliders
+  pub aim-table : (sliders : Bool) → aimAtPlace os (partAt u part) j sliders ≡ aimAtPlace os (inWindow w j) j sliders
+  aim-table sliders = aim-seen os (partAt u part) (inWindow w j) j one agrees sliders
 
-  pub flashlight-table : (e : FlashlightEvaluator) (repeats : ℕ) (hidden : Bool)
-      → flashlightOf e (viewAt u chart lay (j - a) j) (j - a) repeats hidden ≡ flashlightOf e (viewOf os (inWindow w j) j) (j - 1) repeats hidden
-  flashlight-table e repeats hidden =
-      flashlight-same e (viewAt u chart lay (j - a) j) (viewOf os (partAt u a) j) (j - a) (j - 1) repeats repeats hidden (before-part 10 j a (omega arith) one f)
-      (λ k b. part-view u chart lay j a k) (λ h. refl)
-      ∙ flashlight-seen os (partAt u a) (inWindow w j) j one agrees e repeats hidden
+  pub flashlight-table : (e : FlashlightEvaluator) (hidden : Bool) → flashlightAtPlace e os (partAt u part) j hidden ≡ flashlightAtPlace e os (inWindow w j) j hidden
+  flashlight-table e hidden = flashlight-seen os (partAt u part) (inWindow w j) j one agrees e hidden
 
-  pub speed-table : (last records : ℕ) → last ≡ lastOf j records → (window : Float) (autopilot : Bool)
-      → speedAtPlace os (partAt u a) last j window autopilot ≡ speedAtPlace os (inWindow w j) records j window autopilot
-  speed-table last records e window autopilot = speed-seen os (partAt u a) (inWindow w j) j one agrees last records (next-alike j last records e) window autopilot
+  pub speed-table : (records : ℕ) → part .last ≡ lastOf j records → (window : Float) (autopilot : Bool)
+      → speedAtPlace os (partAt u part) (part .last) j window autopilot ≡ speedAtPlace os (inWindow w j) records j window autopilot
+  speed-table records e window autopilot =
+      speed-seen os (partAt u part) (inWindow w j) j one agrees (part .last) records (next-alike j (part .last) records e) window autopilot
 
-  pub rhythm-table : (last records : ℕ) → last ≡ lastOf j records → (window : Float)
-      → rhythmAtPlace os (partAt u a) last j window ≡ rhythmAtPlace os (inWindow w j) records j window
-  rhythm-table last records e window = rhythm-seen os (partAt u a) (inWindow w j) j one agrees last records (next-alike j last records e) window
+  pub rhythm-table : (records : ℕ) → part .last ≡ lastOf j records → (window : Float)
+      → rhythmAtPlace os (partAt u part) (part .last) j window ≡ rhythmAtPlace os (inWindow w j) records j window
+  rhythm-table records e window = rhythm-seen os (partAt u part) (inWindow w j) j one agrees (part .last) records (next-alike j (part .last) records e) window

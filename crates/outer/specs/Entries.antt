@@ -1,25 +1,23 @@
 -- What the outer entries answer: evaluators/*.rs at place j, over a slice of records. Definitions only.
-use Prim.Native.Nat.{ℕ, _-_}
+use Prim.Native.Nat.{ℕ}
 use mathlib.Core.Bool.{Bool}
 use mathlib.Core.List.{List}
 use lib.ListN.{length}
 use lib.Ieee.{Float}
 use Rattle.objects.specs.declared.Layout.{Layout}
 use Rattle.osu_object.specs.Osu.{objectOf}
-use Rattle.osu_object.specs.Base.{repeatsOf}
 use Rattle.object.specs.declared.OsuDifficultyObject.{OsuDifficultyObject}
-use Rattle.records.specs.Sight.{viewOf}
-use Rattle.aim.specs.Aim.{aimOf}
+use Rattle.aim.specs.Aim.{aimAtPlace}
 use Rattle.speed.specs.Speed.{speedAtPlace}
 use Rattle.rhythm.specs.Rhythm.{rhythmAtPlace}
 use Rattle.flashlight.specs.declared.FlashlightEvaluator.{FlashlightEvaluator}
-use Rattle.flashlight.specs.Flashlight.{flashlightOf}
+use Rattle.flashlight.specs.Flashlight.{flashlightAtPlace}
 use Rattle.outer.specs.Records.{recordOf, inWindow}
 
 -- ---- of records by their places, of which the last is that of place `last`
 
 abbrev aimBy : List ℕ → Layout → (ℕ → OsuDifficultyObject) → ℕ → Bool → Float
-aimBy chart lay rs j sliders = aimOf (viewOf (objectOf chart lay) rs j) (j - 1) sliders
+aimBy chart lay rs j sliders = aimAtPlace (objectOf chart lay) rs j sliders
 
 abbrev speedBy : List ℕ → Layout → (ℕ → OsuDifficultyObject) → ℕ → ℕ → Float → Bool → Float
 speedBy chart lay rs last j window autopilot = speedAtPlace (objectOf chart lay) rs last j window autopilot
@@ -28,7 +26,7 @@ abbrev rhythmBy : List ℕ → Layout → (ℕ → OsuDifficultyObject) → ℕ 
 rhythmBy chart lay rs last j window = rhythmAtPlace (objectOf chart lay) rs last j window
 
 abbrev flashlightBy : FlashlightEvaluator → List ℕ → Layout → (ℕ → OsuDifficultyObject) → ℕ → Bool → Float
-flashlightBy e chart lay rs j hidden = flashlightOf e (viewOf (objectOf chart lay) rs j) (j - 1) (repeatsOf (objectOf chart lay j)) hidden
+flashlightBy e chart lay rs j hidden = flashlightAtPlace e (objectOf chart lay) rs j hidden
 
 -- ---- of a slice, whose last record is that of the place which is its length: `next` is `get(idx + 1)` of the slice
 

@@ -7,14 +7,17 @@
 ghost use mathlib.Core.Path.{_≡_};
 ghost use Prim.Native.Nat.{_+_, _-_, _≤_, _<_};
 ghost use lib.ListN.{length, replicate};
+ghost use Rattle.objects.specs.Objects.{Holds};
 ghost use Rattle.osu_object.specs.Osu.{Ready};
 ghost use Rattle.tables.specs.Parts.{fill};
 ghost use Rattle.records.specs.Rows.{rowOf};
+ghost use Rattle.records.specs.Part.{firstPlace};
 ghost use Rattle.outer.specs.Entries.{aimOn, speedOn, rhythmOn, flashlightOn, aimIn, speedIn, rhythmIn, flashlightIn};
 ghost use Rattle.outer.specs.Records.{recordAt, windowOf, slotAt, inWindow, lastOf, InF32s};
 use flashlight::FlashlightEvaluator;
 use object::OsuDifficultyObject;
 use objects::Layout;
+use records::Part;
 
 // Record i, or one of zeros past the end.
 pub fn nth(rs: &[OsuDifficultyObject], i: usize) -> OsuDifficultyObject
@@ -85,15 +88,19 @@ fn put_window(t: &mut [f64], w: [OsuDifficultyObject; 34])
     }
 }
 
-// The last place that the window of place j holds, of a slice with so many records: j has a next one where the slice has.
-fn last_place(j: usize, records: usize) -> usize
+// The places of the window of place j that count, of a slice with so many records: j has a next one where the slice has.
+fn part_in(j: usize, records: usize) -> Part
     requires { ⌜ j < 65536 ⌝ }
-    ensures { λ r. ⌜ (r ≡ lastOf j records) × (j ≤ r) × (r ≤ j + 1) ⌝ }
+    ensures { λ r. ⌜ (r .first ≡ firstPlace j) × (r .last ≡ lastOf j records) × (j ≤ r .last) × (r .last ≤ j + 1) ⌝ }
 {
-    if j < records { j + 1 } else { j }
+    let first = records::first_place(j);
+    if j < records {
+        return Part { first, last: j + 1 };
+    }
+    Part { first, last: j }
 }
 
-// The evaluators over the window of place j.
+// Aim over the window of place j.
 fn aim_in(
     chart: &[u8],
     w: [OsuDifficultyObject; 34],
@@ -101,15 +108,16 @@ fn aim_in(
     j: usize,
     with_slider_travel_dist: bool,
 ) -> f64
-    requires { ⌜ InF32s w × Ready (now chart) lay × (1 ≤ j) × (j < lay .n) ⌝ }
+    requires { ⌜ InF32s w × Holds (now chart) lay × (1 ≤ j) × (j < lay .n) ⌝ }
     ensures { λ r. ⌜ r ≡ aimIn (now (chart .entry)) lay w j «with_slider_travel_dist» ⌝ }
 {
     let mut t = [0.0f64; 544];
     put_window(&mut t[..], w);
-    let first = records::first_place(j);
-    aim::evaluate_diff_of(&t[..], chart, lay, j - first, j, with_slider_travel_dist)
+    let part = part_in(j, j);
+    aim::evaluate_diff_of(&t[..], part, chart, lay, j, with_slider_travel_dist)
 }
 
+// Speed over the window of place j, of a slice with so many records.
 fn speed_in(
     chart: &[u8],
     w: [OsuDifficultyObject; 34],
@@ -119,16 +127,16 @@ fn speed_in(
     hit_window: f64,
     autopilot: bool,
 ) -> f64
-    requires { ⌜ InF32s w × Ready (now chart) lay × (1 ≤ j) × (j < lay .n) ⌝ }
+    requires { ⌜ InF32s w × Holds (now chart) lay × (1 ≤ j) × (j < lay .n) ⌝ }
     ensures { λ r. ⌜ r ≡ speedIn (now (chart .entry)) lay w j records «hit_window» autopilot ⌝ }
 {
     let mut t = [0.0f64; 544];
     put_window(&mut t[..], w);
-    let first = records::first_place(j);
-    let last = last_place(j, records);
-    speed::evaluate_diff_of(&t[..], first, last, chart, lay, j, hit_window, autopilot)
+    let part = part_in(j, records);
+    speed::evaluate_diff_of(&t[..], part, chart, lay, j, hit_window, autopilot)
 }
 
+// Rhythm over the window of place j, of a slice with so many records.
 fn rhythm_in(
     chart: &[u8],
     w: [OsuDifficultyObject; 34],
@@ -137,16 +145,16 @@ fn rhythm_in(
     records: usize,
     hit_window: f64,
 ) -> f64
-    requires { ⌜ InF32s w × Ready (now chart) lay × (1 ≤ j) × (j < lay .n) ⌝ }
+    requires { ⌜ InF32s w × Holds (now chart) lay × (1 ≤ j) × (j < lay .n) ⌝ }
     ensures { λ r. ⌜ r ≡ rhythmIn (now (chart .entry)) lay w j records «hit_window» ⌝ }
 {
     let mut t = [0.0f64; 544];
     put_window(&mut t[..], w);
-    let first = records::first_place(j);
-    let last = last_place(j, records);
-    rhythm::evaluate_diff_of(&t[..], first, last, chart, lay, j, hit_window)
+    let part = part_in(j, records);
+    rhythm::evaluate_diff_of(&t[..], part, chart, lay, j, hit_window)
 }
 
+// Flashlight over the window of place j.
 fn flashlight_in(
     chart: &[u8],
     w: [OsuDifficultyObject; 34],
@@ -160,11 +168,11 @@ fn flashlight_in(
 {
     let mut t = [0.0f64; 544];
     put_window(&mut t[..], w);
-    let first = records::first_place(j);
-    evaluator.evaluate_diff_of(&t[..], chart, lay, j - first, j, hidden)
+    let part = part_in(j, j);
+    evaluator.evaluate_diff_of(&t[..], part, chart, lay, j, hidden)
 }
 
-// evaluators/aim.rs, `evaluate_diff_of`.
+// Aim at place j, over a slice of records: evaluators/aim.rs, `evaluate_diff_of`.
 pub fn evaluate_aim(
     diff_objects: &[OsuDifficultyObject],
     chart: &[u8],
@@ -172,7 +180,7 @@ pub fn evaluate_aim(
     j: usize,
     with_slider_travel_dist: bool,
 ) -> f64
-    requires { ⌜ Ready (now chart) lay × (1 ≤ j) × (j < lay .n) ⌝ }
+    requires { ⌜ Holds (now chart) lay × (1 ≤ j) × (j < lay .n) ⌝ }
     ensures { λ r. ⌜ r ≡ aimOn (now (chart .entry)) lay (now («diff_objects» .entry)) j «with_slider_travel_dist» ⌝ }
 {
     aim_in(
@@ -184,7 +192,7 @@ pub fn evaluate_aim(
     )
 }
 
-// evaluators/speed.rs, `evaluate_diff_of`.
+// Speed at place j, over a slice of records: evaluators/speed.rs, `evaluate_diff_of`.
 pub fn evaluate_speed(
     diff_objects: &[OsuDifficultyObject],
     chart: &[u8],
@@ -193,7 +201,7 @@ pub fn evaluate_speed(
     hit_window: f64,
     autopilot: bool,
 ) -> f64
-    requires { ⌜ Ready (now chart) lay × (1 ≤ j) × (j < lay .n) ⌝ }
+    requires { ⌜ Holds (now chart) lay × (1 ≤ j) × (j < lay .n) ⌝ }
     ensures { λ r. ⌜ r ≡ speedOn (now (chart .entry)) lay (now («diff_objects» .entry)) j «hit_window» autopilot ⌝ }
 {
     let w = window(diff_objects, j);
@@ -201,7 +209,7 @@ pub fn evaluate_speed(
     speed_in(chart, w, lay, j, records, hit_window, autopilot)
 }
 
-// evaluators/rhythm.rs, `evaluate_diff_of`.
+// Rhythm at place j, over a slice of records: evaluators/rhythm.rs, `evaluate_diff_of`.
 pub fn evaluate_rhythm(
     diff_objects: &[OsuDifficultyObject],
     chart: &[u8],
@@ -209,7 +217,7 @@ pub fn evaluate_rhythm(
     j: usize,
     hit_window: f64,
 ) -> f64
-    requires { ⌜ Ready (now chart) lay × (1 ≤ j) × (j < lay .n) ⌝ }
+    requires { ⌜ Holds (now chart) lay × (1 ≤ j) × (j < lay .n) ⌝ }
     ensures { λ r. ⌜ r ≡ rhythmOn (now (chart .entry)) lay (now («diff_objects» .entry)) j «hit_window» ⌝ }
 {
     let w = window(diff_objects, j);
@@ -217,7 +225,7 @@ pub fn evaluate_rhythm(
     rhythm_in(chart, w, lay, j, records, hit_window)
 }
 
-// evaluators/flashlight.rs, `evaluate_diff_of`.
+// Flashlight at place j, over a slice of records: evaluators/flashlight.rs, `evaluate_diff_of`.
 pub fn evaluate_flashlight(
     diff_objects: &[OsuDifficultyObject],
     chart: &[u8],

@@ -8,13 +8,13 @@ use lib.Dec.{ltb}
 use lib.ListN.{take, drop}
 use lib.Ieee.{Float}
 use borrow.Author.Tests.{lt-ltb, le-ltb, ltb-true, ltb-false}
-use Rattle.objects.specs.declared.Layout.{Layout}
-use Rattle.osu_object.specs.Osu.{objectOf}
+use Rattle.osu_object.specs.Osu.{Object}
 use Rattle.object.specs.declared.OsuDifficultyObject.{OsuDifficultyObject}
+use Rattle.records.specs.declared.Part.{Part}
 use Rattle.records.specs.Rows.{recordAt}
+use Rattle.records.specs.Part.{firstPlace, lastPlace, partAt}
+use Rattle.records.specs.Sight.{sightOf, viewOf}
 use Rattle.records.proofs.Laws.{record-part}
-use Rattle.records.specs.Part.{firstPlace, endPlace, partAt}
-use Rattle.records.specs.Sight.{sightOf, viewOf, viewAt}
 
 -- two tests agree where what they test does
 pub ltb-iff : (x y u v : ℕ) → (u < v → x < y) → (v ≤ u → y ≤ x) → ltb x y ≡ ltb u v
@@ -25,45 +25,39 @@ ltb-iff x y u v f g = go (ltb u v) refl
     go false e = le-ltb x y (g (ltb-false u v e))
 
 -- laws of numbers on their own, with few facts in reach of `omega`
-place-in : (a p e : ℕ) → a ≤ p → p < e → a + (p - a) < e
-place-in a p e h l = omega arith
+place-in : (a p l : ℕ) → a ≤ p → p ≤ l → a + (p - a) < l + 1
+place-in a p l h b = omega arith
 
 place-back : (a p : ℕ) → a ≤ p → a + (p - a) ≡ p
 place-back a p h = omega arith
 
-back-from : (a j k : ℕ) → a ≤ j → k ≤ j - a → a ≤ j - k
-back-from a j k h b = omega arith
+back-from : (a j k : ℕ) → a ≡ firstPlace j → 1 ≤ j → k ≤ min (j - 1) 32 → a ≤ j - k
+back-from a j k f one b = omega arith
 
-back-in : (j k e : ℕ) → j < e → j - k < e
-back-in j k e l = omega arith
+back-in : (l j n k : ℕ) → l ≡ lastPlace j n → j < n → j - k ≤ l
+back-in l j n k e h = omega arith
 
-back-swap : (a j k : ℕ) → j - a - k ≡ j - k - a
-back-swap a j k = omega arith
+next-from : (a j : ℕ) → a ≡ firstPlace j → 1 ≤ j → a ≤ j + 1
+next-from a j f one = omega arith
 
-first-le : (j a : ℕ) → 1 ≤ j → a ≡ firstPlace j → a ≤ j
-first-le j a one f = omega arith
+within : (j c k : ℕ) → c ≤ 32 → k ≤ min (j - 1) c → k ≤ min (j - 1) 32
+within j c k h b = omega arith
 
-end-past : (j n e : ℕ) → j < n → e ≡ endPlace j n → j < e
-end-past j n e inside l = omega arith
+-- the numbers of a part of a table
+abbrev pub partIn : List Float → Part → List Float
+partIn t part = take (16 * (part .last + 1) - 16 * part .first) (drop (16 * part .first) t)
 
--- the last place of the part
-pub last-place : (j n e : ℕ) → j < n → e ≡ endPlace j n → e - 1 ≡ min (j + 1) (n - 1)
-last-place j n e inside l = omega arith
+part-at : (t : List Float) (part : Part) (p : ℕ) → part .first ≤ p → p ≤ part .last → partAt (partIn t part) part p ≡ recordAt t p
+part-at t part p h l = record-part t (part .first) (part .last + 1) (p - part .first) (place-in (part .first) p (part .last) h l) ∙ ap (recordAt t) (place-back (part .first) p h)
 
--- up to c, as many records precede within the part as before the place
-pub before-part : (c j a : ℕ) → c ≤ 32 → 1 ≤ j → a ≡ firstPlace j → min (j - a) c ≡ min (j - 1) c
-before-part c j a h one f = omega arith
+-- ---- of the part lent at place j of n
 
--- entries a up to e of a table
-abbrev pub partOf : List Float → ℕ → ℕ → List Float
-partOf t a e = take (16 * e - 16 * a) (drop (16 * a) t)
+module _ (t : List Float) (j n : ℕ) (part : Part) (one : 1 ≤ j) (inside : j < n) (f : part .first ≡ firstPlace j) (l : part .last ≡ lastPlace j n) where
+  pub record-back : (k : ℕ) → k ≤ min (j - 1) 32 → partAt (partIn t part) part (j - k) ≡ recordAt t (j - k)
+  record-back k b = part-at t part (j - k) (back-from (part .first) j k f one b) (back-in (part .last) j n k l inside)
 
-pub part-at : (t : List Float) (a e p : ℕ) → a ≤ p → p < e → partAt (partOf t a e) a p ≡ recordAt t p
-part-at t a e p h l = record-part t a e (p - a) (place-in a p e h l) ∙ ap (recordAt t) (place-back a p h)
+  pub next-part : j < part .last → partAt (partIn t part) part (j + 1) ≡ recordAt t (j + 1)
+  next-part h = part-at t part (j + 1) (next-from (part .first) j f one) (omega arith)
 
-pub view-part : (t : List Float) (chart : List ℕ) (lay : Layout) (n j a e k : ℕ) → 1 ≤ j → j < n → a ≡ firstPlace j → e ≡ endPlace j n → k ≤ j - a
-    → viewAt (partOf t a e) chart lay (j - a) j k ≡ viewOf (objectOf chart lay) (recordAt t) j k
-view-part t chart lay n j a e k one inside f l b =
-    ap (λ (r : OsuDifficultyObject). sightOf r (objectOf chart lay (j - k)))
-    (ap (recordAt (partOf t a e)) (back-swap a j k)
-    ∙ part-at t a e (j - k) (back-from a j k (first-le j a one f) b) (back-in j k e (end-past j n e inside l)))
+  pub view-part : (os : ℕ → Object) (c k : ℕ) → c ≤ 32 → k ≤ min (j - 1) c → viewOf os (partAt (partIn t part) part) j k ≡ viewOf os (recordAt t) j k
+  view-part os c k h b = ap (λ (r : OsuDifficultyObject). sightOf r (os (j - k))) (record-back k (within j c k h b))

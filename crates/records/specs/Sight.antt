@@ -1,12 +1,8 @@
 -- What an evaluator sees: the records and base objects at its place and before it. Definitions only.
 use Prim.Native.Nat.{ℕ, _-_}
-use mathlib.Core.List.{List}
-use lib.Ieee.{Float}
-use Rattle.objects.specs.declared.Layout.{Layout}
-use Rattle.osu_object.specs.Osu.{Object, objectOf}
+use Rattle.osu_object.specs.Osu.{Object}
 use Rattle.osu_object.specs.Base.{baseOf}
 use Rattle.object.specs.declared.OsuDifficultyObject.{OsuDifficultyObject}
-use Rattle.records.specs.Rows.{recordAt}
 use Rattle.records.specs.declared.Sight.{Sight}
 
 abbrev pub sightOf : OsuDifficultyObject → Object → Sight
@@ -19,7 +15,3 @@ View = ℕ → Sight
 -- the view from place j, of objects and records by their places
 abbrev pub viewOf : (ℕ → Object) → (ℕ → OsuDifficultyObject) → ℕ → View
 viewOf os rs j = λ k. sightOf (rs (j - k)) (os (j - k))
-
--- the view from place i of a part of the table, which is place j of the chart
-abbrev pub viewAt : List Float → List ℕ → Layout → ℕ → ℕ → View
-viewAt t chart lay i j = λ k. sightOf (recordAt t (i - k)) (objectOf chart lay (j - k))

@@ -2,11 +2,12 @@
 ghost use mathlib.Core.Path.{_≡_};
 ghost use Prim.Native.Nat.{_+_, _*_, _-_, _≤_, _<_};
 ghost use lib.ListN.{length};
+ghost use Rattle.objects.specs.Objects.{Holds};
 ghost use Rattle.osu_object.specs.Osu.{Ready, objectOf};
 ghost use Rattle.object.specs.Record.{placedOf};
 ghost use Rattle.records.specs.Rows.{recordAt, putRecord, numberOf};
 ghost use Rattle.records.specs.Fill.{filledRange, filled};
-ghost use Rattle.records.specs.Part.{firstPlace, endPlace};
+ghost use Rattle.records.specs.Part.{firstPlace, lastPlace, partAt, Within};
 ghost use Rattle.records.specs.Sight.{sightOf};
 use object::OsuDifficultyObject;
 use object::Placed;
@@ -117,15 +118,10 @@ pub struct Sight {
     pub base: BaseObject,
 }
 
-// The record at place i of a part of the table, with the base object at its place j of the chart.
-pub fn sight_at(t: &[f64], chart: &[u8], lay: Layout, i: usize, j: usize) -> Sight
-    requires { ⌜ Ready (now chart) lay × (j < lay .n) × (i < 65536) × (16 * i + 16 ≤ length (now t)) ⌝ }
-    ensures { λ r. ⌜ r ≡ sightOf (recordAt (now (t .entry)) i) (objectOf (now (chart .entry)) lay j) ⌝ }
-{
-    Sight {
-        diff: record_at(t, i),
-        base: osu_object::base_at(chart, lay, j),
-    }
+// The places whose records a lent part of the table holds.
+pub struct Part {
+    pub first: usize,
+    pub last: usize,
 }
 
 // The first place of the part that the evaluators at place j are lent: 32 places before.
@@ -135,10 +131,32 @@ pub fn first_place(j: usize) -> usize
     if j < 33 { 1 } else { j - 32 }
 }
 
-// The end of that part, of a table of n entries: after the place behind j.
-pub fn end_place(j: usize, n: usize) -> usize
-    requires { ⌜ (j < n) × (n ≤ 16384) ⌝ }
-    ensures { λ r. ⌜ r ≡ endPlace j n ⌝ }
+// Its last place, of n: the place after j, if there is one.
+fn last_place(j: usize, n: usize) -> usize
+    requires { ⌜ j < n ⌝ }
+    ensures { λ r. ⌜ r ≡ lastPlace j n ⌝ }
 {
-    if j + 2 < n { j + 2 } else { n }
+    if j < n - 1 { j + 1 } else { n - 1 }
+}
+
+// The part that the evaluators at place j of n are lent: from 32 places before to one after.
+pub fn part_of(j: usize, n: usize) -> Part
+    requires { ⌜ j < n ⌝ }
+    ensures { λ r. ⌜ (r .first ≡ firstPlace j) × (r .last ≡ lastPlace j n) ⌝ }
+{
+    Part {
+        first: first_place(j),
+        last: last_place(j, n),
+    }
+}
+
+// The record at place p, from a part of the table, with the base object there.
+pub fn sight_at(t: &[f64], part: Part, chart: &[u8], lay: Layout, p: usize) -> Sight
+    requires { ⌜ Holds (now chart) lay × (p < lay .n) × Within (now t) part p ⌝ }
+    ensures { λ r. ⌜ r ≡ sightOf (partAt (now (t .entry)) part p) (objectOf (now (chart .entry)) lay p) ⌝ }
+{
+    Sight {
+        diff: record_at(t, p - part.first),
+        base: osu_object::base_at(chart, lay, p),
+    }
 }

@@ -8,7 +8,7 @@ use lib.IntN.{ℤ, pos}
 use lib.Ieee.{Float}
 use Rattle.rhythm.specs.Island.{newIsland}
 use Rattle.rhythm.specs.Counts.{entriesOf, noCount}
-use Rattle.rhythm.specs.declared.IslandCount.{IslandCount}
+use Rattle.rhythm.specs.declared.island.IslandCount.{IslandCount}
 
 abbrev pub entry : Float → ℤ → ℤ → ℕ → IslandCount
 entry eps d k c = record { island = record { «delta_difference_eps» = eps; delta = d; «delta_count» = k }; count = c }

@@ -13,10 +13,10 @@ use lib.Ieee.{Float, lt}
 use Rattle.floats.specs.Numbers.{_⊕_, _⊖_}
 use Rattle.floats.specs.Compare.{absOf}
 use Rattle.rhythm.specs.Constants.{minDeltaTime, largest, sixTenths}
-use Rattle.rhythm.specs.declared.RhythmIsland.{RhythmIsland}
-use Rattle.rhythm.specs.declared.IslandCount.{IslandCount}
-use Rattle.rhythm.specs.declared.Deltas.{Deltas}
-use Rattle.rhythm.specs.declared.Cell.{Cell}
+use Rattle.rhythm.specs.declared.island.RhythmIsland.{RhythmIsland}
+use Rattle.rhythm.specs.declared.island.IslandCount.{IslandCount}
+use Rattle.rhythm.specs.declared.step.Deltas.{Deltas}
+use Rattle.rhythm.specs.declared.step.Cell.{Cell}
 use Rattle.rhythm.specs.Island.{IslandOk, maxZ, eqI, newIsland, newWithDelta, settledOf, addDelta, sameOf}
 use Rattle.rhythm.specs.Counts.{placeOf, bumpedOf, entryOf, CountOk, CountsOk, noCount}
 use Rattle.rhythm.specs.Step.{Walk, scaledOf, effectiveOf, progressedOf, beganOf, switchedOf, freshState, freshWalk, switchStep, stepBy, deltasOf, stepOf, Good}

@@ -3,7 +3,7 @@ use Prim.Native.Nat.{ℕ, zero, suc, _+_, _-_, _≤_, _<_}
 use native.Mathlib.Omega.{arith}
 use native.Mathlib.Nat.{sub-zero}
 use borrow.Author.Tests.{lt-ltb, le-ltb, ltb-true, ltb-false}
-use mathlib.Core.Path.{_≡_, refl, sym}
+use mathlib.Core.Path.{_≡_, refl, sym, ap, _∙_}
 use mathlib.Core.Bool.{Bool, true, false, not}
 use mathlib.Core.List.{List}
 use lib.Dec.{ltb}
@@ -11,25 +11,24 @@ use lib.ListN.{set, replicate}
 use lib.IntN.{pos}
 use lib.Ieee as Ieee
 use lib.Ieee.{Float, lt}
-use Rattle.floats.specs.Numbers.{_⊕_, _⊖_}
+use Rattle.floats.specs.Numbers.{_⊕_, _⊖_, zero64}
 use Rattle.osu_object.specs.Osu.{Object}
-use Rattle.osu_object.specs.Base.{baseOf}
 use Rattle.object.specs.Reading.{tapnessOf, windowOf}
 use Rattle.object.specs.declared.OsuDifficultyObject.{OsuDifficultyObject}
 use Rattle.rhythm.specs.Constants.{historyTimeMax}
-use Rattle.rhythm.specs.declared.IslandCount.{IslandCount}
-use Rattle.rhythm.specs.declared.RhythmState.{RhythmState}
-use Rattle.rhythm.specs.declared.Deltas.{Deltas}
-use Rattle.rhythm.specs.declared.Cell.{Cell}
+use Rattle.rhythm.specs.declared.island.IslandCount.{IslandCount}
+use Rattle.rhythm.specs.declared.step.RhythmState.{RhythmState}
+use Rattle.rhythm.specs.declared.step.Deltas.{Deltas}
+use Rattle.rhythm.specs.declared.step.Cell.{Cell}
 use Rattle.rhythm.specs.Island.{eqI, similarOf}
 use Rattle.rhythm.specs.Counts.{placeOf, entryOf}
 use Rattle.rhythm.specs.Step.{Walk, walkOf, switchRatio, fasterTwice, lastRatio, decayOf, switchedOf, freshState, freshWalk, switchStep, stepOf}
-use Rattle.rhythm.specs.Rhythm.{View, runOf, nearOf, startFrom, cellOf, cellsOf}
+use Rattle.rhythm.specs.Rhythm.{Cells, runOf, nearOf, startFrom, cellAt, cellsAt}
 use Rattle.rhythm.proofs.Entries.{entries-fresh}
 
 -- ---- the search for the start, and the run
 
-module _ (v : View) (hist r : ℕ) where
+module _ (v : Cells) (hist r : ℕ) where
   left : r < hist → hist - r ≡ suc (hist - (r + 1))
   left h = omega arith
 
@@ -45,7 +44,7 @@ module _ (v : View) (hist r : ℕ) where
   unfolding startFrom
   start-end h = let e : hist - r ≡ 0 = omega arith in rw e
 
-run-one : (v : View) (hist : ℕ) (window eps : Float) (k : ℕ) (s : Walk) → 0 < k
+run-one : (v : Cells) (hist : ℕ) (window eps : Float) (k : ℕ) (s : Walk) → 0 < k
     → runOf v hist window eps k s
     ≡ runOf v hist window eps (k - 1)
     (stepOf s (v k) (v (k + 1)) (v (k + 2)) (decayOf (v 0 .«start_time») (v k .«start_time») hist k) window eps)
@@ -77,7 +76,7 @@ unfolding switchStep
 switch-is w ratio d curr prev decay window eps at e es similar faster r tapped tap last next h1 h2 h3 h4 h5 h6 h7 h8 h9 h10 =
     rw (h10, h9, h8, h7, h6, h5, h4, h3, h2, h1)
 
-module _ (v : View) (hist : ℕ) where
+module _ (v : Cells) (hist : ℕ) where
   pub run-turn : (window eps : Float) (k : ℕ) (s next : Walk) (here curr prev last : Cell) (d : Float) → 0 < k
       → here ≡ v 0 → curr ≡ v k → prev ≡ v (k + 1) → last ≡ v (k + 2)
       → d ≡ decayOf (here .«start_time») (curr .«start_time») hist k
@@ -97,11 +96,20 @@ module _ (v : View) (hist : ℕ) where
       go true e = start-stop v hist r (ltb-true r hist e) (rw (le-ltb (r + 2) hist h))
       go false e = start-end v hist r (ltb-false r hist e)
 
+-- the cell of one number of places back is that of an equal one
+pub cell-back : (os : ℕ → Object) (rs : ℕ → OsuDifficultyObject) (j k i : ℕ) (c : Cell) → k ≡ i → c ≡ cellsAt os rs j k → c ≡ cellsAt os rs j i
+cell-back os rs j k i c p e = e ∙ ap (cellsAt os rs j) p
+
 -- the view's first cell is the place's own
-pub cell-here : (os : ℕ → Object) (rs : ℕ → OsuDifficultyObject) (j : ℕ) (c : Cell) → c ≡ cellOf (baseOf (os j)) (rs j) → c ≡ cellsOf os rs j 0
+pub cell-here : (os : ℕ → Object) (rs : ℕ → OsuDifficultyObject) (j : ℕ) (c : Cell) → c ≡ cellAt os rs j → c ≡ cellsAt os rs j 0
 cell-here os rs j c e = rw sub-zero e
 
-pub run-end : (v : View) (hist : ℕ) (window eps : Float) (k : ℕ) (s : Walk) → k ≤ 0 → runOf v hist window eps k s ≡ s
+pub run-end : (v : Cells) (hist : ℕ) (window eps : Float) (k : ℕ) (s : Walk) → k ≤ 0 → runOf v hist window eps k s ≡ s
 unfolding runOf
 run-end v hist window eps zero s h = refl
 run-end v hist window eps (suc k) s h = absurd (omega arith)
+
+-- without a turn there is no sum
+pub run-none : (v : Cells) (hist : ℕ) (window eps : Float) (from : ℕ) → from ≡ 0 → zero64 ≡ runOf v hist window eps from (freshWalk eps) .state .sum
+unfolding runOf freshWalk freshState
+run-none v hist window eps from e = rw e

@@ -11,18 +11,18 @@ use lib.Ieee as Ieee
 use lib.Ieee.{Float}
 use Rattle.floats.specs.Numbers.{_⊖_}
 use Rattle.osu_object.specs.Osu.{Object}
-use Rattle.osu_object.specs.Base.{baseOf}
 use Rattle.object.specs.declared.OsuDifficultyObject.{OsuDifficultyObject}
 use Rattle.records.specs.Rows.{recordAt}
-use Rattle.records.specs.Part.{firstPlace, endPlace, partAt, Covers}
-use Rattle.records.proofs.Parts.{partOf, part-at, last-place}
+use Rattle.records.specs.Part.{firstPlace, lastPlace, partAt, Within, Covers}
+use Rattle.records.specs.declared.Part.{Part}
+use Rattle.records.proofs.Parts.{partIn, next-part, view-part}
 use Rattle.rhythm.specs.Step.{Walk}
 use Rattle.rhythm.specs.Constants.{historyTimeMax}
-use Rattle.rhythm.specs.Rhythm.{View, runOf, nearOf, startFrom, startOf, rhythmOf, cellOf, cellsOf, countBefore, rhythmAtPlace}
+use Rattle.rhythm.specs.Rhythm.{Cells, runOf, nearOf, startFrom, startOf, rhythmBy, cellOf, cellsAt, countBefore, rhythmAtPlace}
 
 -- ---- two views that agree as far back as the history goes
 
-module _ (v w : View) (hist : ℕ) (same : (k : ℕ) → k ≤ hist → v k ≡ w k) where
+module _ (v w : Cells) (hist : ℕ) (same : (k : ℕ) → k ≤ hist → v k ≡ w k) where
   near-same : (r : ℕ) → nearOf v hist r ≡ nearOf w hist r
   near-same r = go (ltb (r + 2) hist) refl
     where
@@ -57,8 +57,8 @@ module _ (v w : View) (hist : ℕ) (same : (k : ℕ) → k ≤ hist → v k ≡ 
       (run-same window eps k _ (omega arith))
 
   pub view-same : (hasNext : Bool) (next other window : Float) → (hasNext ≡ true → next ≡ other)
-      → rhythmOf v hist hasNext next window ≡ rhythmOf w hist hasNext other window
-  unfolding rhythmOf startOf
+      → rhythmBy v hist hasNext next window ≡ rhythmBy w hist hasNext other window
+  unfolding rhythmBy startOf
   view-same true next other window e =
       rw (run-same _ _ (startFrom v hist hist 0) _ (start-le hist 0 (omega arith)), start-same hist 0, same 0 (omega arith), e refl)
   view-same false next other window e =
@@ -67,45 +67,37 @@ module _ (v w : View) (hist : ℕ) (same : (k : ℕ) → k ≤ hist → v k ≡ 
 -- the cells as far back as the history goes, and the next one's delta time: at any two places with as many records before them that count
 pub rhythm-same : (os ps : ℕ → Object) (rs qs : ℕ → OsuDifficultyObject) (last end j i : ℕ) (window : Float)
     → countBefore j ≡ countBefore i
-    → ((k : ℕ) → k ≤ countBefore j → cellsOf os rs j k ≡ cellsOf ps qs i k)
+    → ((k : ℕ) → k ≤ countBefore j → cellsAt os rs j k ≡ cellsAt ps qs i k)
     → ltb j last ≡ ltb i end
     → (j < last → rs (j + 1) .«delta_time» ≡ qs (i + 1) .«delta_time»)
     → rhythmAtPlace os rs last j window ≡ rhythmAtPlace ps qs end i window
-unfolding rhythmAtPlace
 rhythm-same os ps rs qs last end j i window before cells has next =
     rw (← before, ← has)
-    (view-same (cellsOf os rs j) (cellsOf ps qs i) (countBefore j) cells (ltb j last) _ _ window (λ b. next (ltb-true j last b)))
+    (view-same (cellsAt os rs j) (cellsAt ps qs i) (countBefore j) cells (ltb j last) _ _ window (λ b. next (ltb-true j last b)))
 
 -- ---- the part that is lent
 
 -- it reaches as far back as the history
-pub back-in : {t : List Float} {a b j : ℕ} (hist : ℕ) → Covers t a b j → hist ≡ countBefore j → a + hist ≤ j
+pub back-in : {t : List Float} {part : Part} {j : ℕ} (hist : ℕ) → Covers t part j → hist ≡ countBefore j → part .first + hist ≤ j
 back-in hist h e = omega (arith, h .some, h .from, h .far)
 
 pub hist-few : (j hist : ℕ) → hist ≡ countBefore j → hist ≤ 32
 hist-few j hist e = omega arith
 
-pub here-in : {t : List Float} {a b j : ℕ} → Covers t a b j → 16 * (j - a) + 16 ≤ length t
-here-in h = omega (arith, h .from, h .to, h .room)
+pub here-in : {t : List Float} {part : Part} {j : ℕ} → Covers t part j → Within t part j
+here-in h = record { from = h .from; room = omega (arith, h .from, h .to, h .room) }
 
-pub next-in : {t : List Float} {a b j : ℕ} → Covers t a b j → j < b → (j + 1 - a < 65536) × (16 * (j + 1 - a) + 16 ≤ length t)
+pub next-in : {t : List Float} {part : Part} {j : ℕ} → Covers t part j → j < part .last → (j + 1 - part .first < 65536) × (16 * (j + 1 - part .first) + 16 ≤ length t)
 next-in h l = (omega (arith, h .few), omega (arith, h .from, h .room))
 
 pub few-steps : (from k hist : ℕ) → hist ≤ 32 → from ≤ hist - 2 → from - k ≤ 31
 few-steps from k hist h l = omega arith
 
-place-back : (j a k : ℕ) → 1 ≤ j → a ≡ firstPlace j → k ≤ countBefore j → a ≤ j - k
-place-back j a k one f h = omega arith
-
-place-in : (j e n k : ℕ) → j < n → e ≡ endPlace j n → j - k < e
-place-in j e n k inside l = omega arith
-
 -- what the part lent at place j of n gives
-pub rhythm-part : (os : ℕ → Object) (t : List Float) (a e j n : ℕ) (window : Float) → 1 ≤ j → j < n → a ≡ firstPlace j → e ≡ endPlace j n
-    → rhythmAtPlace os (partAt (partOf t a e) a) (e - 1) j window ≡ rhythmAtPlace os (recordAt t) (min (j + 1) (n - 1)) j window
-rhythm-part os t a e j n window one inside f l =
-    rw (← last-place j n e inside l)
-    (rhythm-same os os (partAt (partOf t a e) a) (recordAt t) (e - 1) (e - 1) j j window refl
-    (λ k h. ap (cellOf (baseOf (os (j - k)))) (part-at t a e (j - k) (place-back j a k one f h) (place-in j e n k inside l)))
-    refl
-    (λ h. ap (λ (r : OsuDifficultyObject). r .«delta_time») (part-at t a e (j + 1) (omega arith) (omega arith))))
+pub rhythm-part : (os : ℕ → Object) (t : List Float) (n j : ℕ) (part : Part) (window : Float) → 1 ≤ j → j < n → part .first ≡ firstPlace j → part .last ≡ lastPlace j n
+    → rhythmAtPlace os (partAt (partIn t part) part) (part .last) j window ≡ rhythmAtPlace os (recordAt t) (lastPlace j n) j window
+rhythm-part os t n j part window one inside f l =
+    rhythm-same os os (partAt (partIn t part) part) (recordAt t) (part .last) (lastPlace j n) j j window refl
+    (λ k h. ap cellOf (view-part t j n part one inside f l os 32 k (omega arith) h))
+    (ap (ltb j) l)
+    (λ h. ap (λ (r : OsuDifficultyObject). r .«delta_time») (next-part t j n part one inside f l h))

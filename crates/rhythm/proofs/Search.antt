@@ -8,8 +8,8 @@ use lib.Dec.{T, le→leb}
 use lib.ListN.{getD}
 use lib.IntN.{pos}
 use lib.Ieee.{binary64, inFloat}
-use Rattle.rhythm.specs.declared.RhythmIsland.{RhythmIsland}
-use Rattle.rhythm.specs.declared.IslandCount.{IslandCount}
+use Rattle.rhythm.specs.declared.island.RhythmIsland.{RhythmIsland}
+use Rattle.rhythm.specs.declared.island.IslandCount.{IslandCount}
 use Rattle.rhythm.specs.Island.{sameOf}
 use Rattle.rhythm.specs.Counts.{findFrom, bumpedOf, noCount}
 

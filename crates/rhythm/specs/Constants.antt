@@ -47,7 +47,7 @@ threeQuarters = f64 0x3FE8000000000000
 abbrev pub leastDelta : Float
 leastDelta = f64 0x3E7AD7F29ABCAF48
 
--- a delta difference of 8 and more lowers the ratio
+-- 8: a ratio of two delta times above it lowers the ratio's bonus, and from twice of it on there is none
 abbrev pub eight : Float
 eight = f64 0x4020000000000000
 

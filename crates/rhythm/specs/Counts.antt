@@ -8,8 +8,8 @@ use lib.ListN.{getD, length}
 use lib.IntN.{ℤ, pos}
 use lib.Ieee.{Float, nan}
 use Rattle.rhythm.specs.Island.{IslandOk, defaultOf, sameOf}
-use Rattle.rhythm.specs.declared.RhythmIsland.{RhythmIsland}
-use Rattle.rhythm.specs.declared.IslandCount.{IslandCount}
+use Rattle.rhythm.specs.declared.island.RhythmIsland.{RhythmIsland}
+use Rattle.rhythm.specs.declared.island.IslandCount.{IslandCount}
 
 -- the array, which is kept as one array a field; the islands of an evaluation share their epsilon
 unfoldable pub entriesOf : Float → List ℤ → List ℤ → List ℕ → List IslandCount

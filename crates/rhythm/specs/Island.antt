@@ -12,7 +12,7 @@ use mir.Val.{ofZ}
 use Rattle.floats.specs.Compare.{absOf}
 use Rattle.util.specs.FloatExt.{epsilon}
 use Rattle.rhythm.specs.Constants.{minDeltaTime, largest}
-use Rattle.rhythm.specs.declared.RhythmIsland.{RhythmIsland}
+use Rattle.rhythm.specs.declared.island.RhythmIsland.{RhythmIsland}
 
 -- two i32 are equal: the test that the machine makes, of their bits
 abbrev pub eqI : ℤ → ℤ → Bool

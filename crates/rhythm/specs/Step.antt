@@ -18,10 +18,10 @@ use Rattle.object.specs.Reading.{tapnessOf, windowOf}
 use Rattle.rhythm.specs.Constants.{historyTimeMax, rhythmRatioMultiplier, threeTenths, eighth, sixTenths, threeQuarters, leastDelta, eight, repeatMidpoint, repeatSlope, repeatMost}
 use Rattle.rhythm.specs.Island.{IslandOk, eqI, newIsland, newWithDelta, addDelta, similarOf}
 use Rattle.rhythm.specs.Counts.{entriesOf, placeOf, entryOf, CountsOk}
-use Rattle.rhythm.specs.declared.IslandCount.{IslandCount}
-use Rattle.rhythm.specs.declared.RhythmState.{RhythmState}
-use Rattle.rhythm.specs.declared.Cell.{Cell}
-use Rattle.rhythm.specs.declared.Deltas.{Deltas}
+use Rattle.rhythm.specs.declared.island.IslandCount.{IslandCount}
+use Rattle.rhythm.specs.declared.step.RhythmState.{RhythmState}
+use Rattle.rhythm.specs.declared.step.Cell.{Cell}
+use Rattle.rhythm.specs.declared.step.Deltas.{Deltas}
 
 -- ---- ratios
 

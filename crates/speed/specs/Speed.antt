@@ -10,9 +10,9 @@ use Rattle.roots.specs.Root.{rootOf}
 use Rattle.elementary.specs.Power.{powerOf}
 use Rattle.util.specs.Difficulty.{defaultDelimiter, bpmToMilliseconds, millisecondsToBpm}
 use Rattle.osu_object.specs.Osu.{Object}
-use Rattle.osu_object.specs.Base.{baseOf}
 use Rattle.object.specs.Reading.{doubletapness}
 use Rattle.object.specs.declared.OsuDifficultyObject.{OsuDifficultyObject}
+use Rattle.records.specs.Sight.{View, viewOf}
 use Rattle.speed.specs.Constants.{singleSpacingThreshold, minSpeedBonus, speedBalancingFactor, distMultiplier, windowShare, leastCap, bonusScale, distExponent, second}
 
 unfoldable pub strainTime : Float → Float → Float
@@ -29,19 +29,23 @@ distBonus dist circle autopilot =
     cond autopilot zero64
     (powerOf (minOf singleSpacingThreshold dist ⊘ singleSpacingThreshold) distExponent ⊗ distMultiplier ⊗ rootOf binary64 circle)
 
--- `evaluate_diff_of`: with the travel distance of the record before, and the next record where there is one
-unfoldable pub speedOf : OsuDifficultyObject → Float → Bool → OsuDifficultyObject → Bool → Float → Bool → Float
-speedOf curr travel hasNext next spinner window autopilot =
+-- with the travel distance of the record before, and the next record where there is one
+unfoldable pub speedBy : OsuDifficultyObject → Float → Bool → OsuDifficultyObject → Bool → Float → Bool → Float
+speedBy curr travel hasNext next spinner window autopilot =
     let time = strainTime (curr .«adjusted_delta_time») window in
     cond spinner zero64
     ((one64 ⊕ speedBonus time ⊕ distBonus (travel ⊕ curr .«min_jump_dist») (curr .«small_circle_bonus») autopilot) ⊗ second ⊘ time
     ⊗ (one64 ⊖ doubletapness curr spinner hasNext next window))
 
--- the travel distance of the record before place j, 0 where there is none
-unfoldable pub travelBefore : (ℕ → OsuDifficultyObject) → ℕ → Float
-travelBefore rs j = cond (ltb 1 j) (rs (j - 1) .«travel_dist») zero64
+-- the travel distance of the last record, 0 where none precede
+abbrev pub travelOf : ℕ → OsuDifficultyObject → Float
+travelOf before last = cond (ltb 0 before) (last .«travel_dist») zero64
+
+-- `evaluate_diff_of`, where `before` records precede
+unfoldable pub speedOf : View → ℕ → Bool → OsuDifficultyObject → Float → Bool → Float
+speedOf v before hasNext next window autopilot =
+    speedBy (v 0 .diff) (travelOf before (v 1 .diff)) hasNext next (v 0 .base .spinner) window autopilot
 
 -- at place j of objects and their records, of which `next` reaches those up to a last place
-unfoldable pub speedAtPlace : (ℕ → Object) → (ℕ → OsuDifficultyObject) → ℕ → ℕ → Float → Bool → Float
-speedAtPlace os rs last j window autopilot =
-    speedOf (rs j) (travelBefore rs j) (ltb j last) (rs (j + 1)) (baseOf (os j) .spinner) window autopilot
+abbrev pub speedAtPlace : (ℕ → Object) → (ℕ → OsuDifficultyObject) → ℕ → ℕ → Float → Bool → Float
+speedAtPlace os rs last j window autopilot = speedOf (viewOf os rs j) (j - 1) (ltb j last) (rs (j + 1)) window autopilot

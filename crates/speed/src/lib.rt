@@ -1,14 +1,16 @@
 // The speed evaluator: evaluators/speed.rs.
 ghost use mathlib.Core.Path.{_≡_};
-ghost use Prim.Native.Nat.{_+_, _*_, _-_, min, _≤_, _<_};
+ghost use Prim.Native.Nat.{_*_, _-_, _≤_, _<_};
 ghost use lib.ListN.{length};
 ghost use Rattle.records.specs.Rows.{recordAt};
-ghost use Rattle.osu_object.specs.Osu.{Ready, objectOf};
-ghost use Rattle.records.specs.Part.{Covers, partAt};
-ghost use Rattle.speed.specs.Speed.{strainTime, speedBonus, distBonus, speedOf, travelBefore, speedAtPlace};
+ghost use Rattle.objects.specs.Objects.{Holds};
+ghost use Rattle.osu_object.specs.Osu.{objectOf};
+ghost use Rattle.records.specs.Part.{Covers, lastPlace, partAt};
+ghost use Rattle.speed.specs.Speed.{strainTime, speedBonus, distBonus, speedBy, travelOf, speedAtPlace};
 use object::OsuDifficultyObject;
 use objects::Layout;
 use osu_object::OsuObject;
+use records::Part;
 
 // 1.25 circles between centres.
 const SINGLE_SPACING_THRESHOLD: f64 = OsuDifficultyObject::NORMALIZED_DIAMETER as f64 * 1.25;
@@ -64,7 +66,7 @@ fn evaluate(
     hit_window: f64,
     autopilot: bool,
 ) -> f64
-    ensures { λ r. ⌜ r ≡ speedOf curr «travel_dist» «has_next» next spinner «hit_window» autopilot ⌝ }
+    ensures { λ r. ⌜ r ≡ speedBy curr «travel_dist» «has_next» next spinner «hit_window» autopilot ⌝ }
 {
     if spinner {
         return 0.0;
@@ -78,37 +80,37 @@ fn evaluate(
     difficulty * doubletapness
 }
 
-fn travel_before(t: &[f64], first: usize, j: usize) -> f64
-    requires { ⌜ Covers (now t) first j j ⌝ }
-    ensures { λ r. ⌜ r ≡ travelBefore (partAt (now (t .entry)) first) j ⌝ }
+// The travel distance of the record before place j, 0 where there is none.
+fn travel_before(t: &[f64], part: Part, j: usize) -> f64
+    requires { ⌜ (j < 65536) × Covers (now t) part j ⌝ }
+    ensures { λ r. ⌜ r ≡ travelOf (j - 1) (partAt (now (t .entry)) part (j - 1)) ⌝ }
 {
-    if 1 < j {
-        let before = records::record_at(t, j - 1 - first);
+    if 0 < j - 1 {
+        let before = records::record_at(t, j - 1 - part.first);
         return before.travel_dist;
     }
     0.0
 }
 
-// The value at place j, from the part of the record table that holds the places first to last.
+// The value at place j, from a part of the record table.
 pub fn evaluate_diff_of(
     t: &[f64],
-    first: usize,
-    last: usize,
+    part: Part,
     chart: &[u8],
     lay: Layout,
     j: usize,
     hit_window: f64,
     autopilot: bool,
 ) -> f64
-    requires { ⌜ Ready (now chart) lay × (j < lay .n) × Covers (now t) first last j ⌝ }
-    ensures { λ r. ⌜ r ≡ speedAtPlace (objectOf (now (chart .entry)) lay) (partAt (now (t .entry)) first) last j «hit_window» autopilot ⌝ }
+    requires { ⌜ Holds (now chart) lay × (j < lay .n) × Covers (now t) part j ⌝ }
+    ensures { λ r. ⌜ r ≡ speedAtPlace (objectOf (now (chart .entry)) lay) (partAt (now (t .entry)) part) (part .last) j «hit_window» autopilot ⌝ }
 {
     let base = OsuObject::new(objects::fields_of(chart, lay, j));
     let spinner = base.is_spinner();
-    let curr = records::record_at(t, j - first);
-    let travel_dist = travel_before(t, first, j);
-    if j < last {
-        let next = records::record_at(t, j + 1 - first);
+    let curr = records::record_at(t, j - part.first);
+    let travel_dist = travel_before(t, part, j);
+    if j < part.last {
+        let next = records::record_at(t, j + 1 - part.first);
         return evaluate(
             curr,
             travel_dist,
@@ -139,21 +141,11 @@ pub fn evaluate_place(
     hit_window: f64,
     autopilot: bool,
 ) -> f64
-    requires { ⌜ Ready (now chart) lay × (1 ≤ j) × (j < lay .n) × (16 * lay .n ≤ length (now t)) ⌝ }
-    ensures { λ r. ⌜ r ≡ speedAtPlace (objectOf (now (chart .entry)) lay) (recordAt (now (t .entry))) (min (j + 1) (lay .n - 1)) j «hit_window» autopilot ⌝ }
+    requires { ⌜ Holds (now chart) lay × (1 ≤ j) × (j < lay .n) × (16 * lay .n ≤ length (now t)) ⌝ }
+    ensures { λ r. ⌜ r ≡ speedAtPlace (objectOf (now (chart .entry)) lay) (recordAt (now (t .entry))) (lastPlace j (lay .n)) j «hit_window» autopilot ⌝ }
 {
-    let first = records::first_place(j);
-    let end = records::end_place(j, lay.n);
-    let from = 16 * first;
-    let to = 16 * end;
-    evaluate_diff_of(
-        &t[from..to],
-        first,
-        end - 1,
-        chart,
-        lay,
-        j,
-        hit_window,
-        autopilot,
-    )
+    let part = records::part_of(j, lay.n);
+    let from = 16 * part.first;
+    let to = 16 * (part.last + 1);
+    evaluate_diff_of(&t[from..to], part, chart, lay, j, hit_window, autopilot)
 }

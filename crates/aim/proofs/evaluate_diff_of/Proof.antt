@@ -1,6 +1,9 @@
 -- `aim::evaluate_diff_of` meets its contract. Assumes nothing.
 use Rattle.aim.proofs.Value.{aim-combine}
-use Rattle.records.specs.Sight.{viewAt}
+use Prim.Native.Nat.{_-_}
+use Rattle.osu_object.specs.Osu.{objectOf}
+use Rattle.records.specs.Part.{partAt}
+use Rattle.records.specs.Sight.{viewOf}
 use denote.Ref.{now}
 use mathlib.Core.Path.{_∙_}
 use borrow.Author.Needs.{needs}
@@ -14,7 +17,7 @@ combine-requires : tie.Need-combine-requires
 combine-requires c κs = search needs
 
 returns : tie.Need-returns
-returns c = c .combine .ensures ∙ rw (c .before .parts-of .ensures) (aim-combine (viewAt (now (c .before .before .before .before .args .t)) (now (c .before .before .before .before .args .chart)) (c .before .before .before .before .args .lay) (c .before .before .before .before .args .i) (c .before .before .before .before .args .j)) (c .before .before .before .before .args .i) _)
+returns c = c .combine .ensures ∙ rw (c .before .parts-of .ensures) (aim-combine (viewOf (objectOf (now (c .before .before .before .before .args .chart)) (c .before .before .before .before .args .lay)) (partAt (now (c .before .before .before .before .args .t)) (c .before .before .before .before .args .part)) (c .before .before .before .before .args .j)) (c .before .before .before .before .args .j - 1) _)
 
 pub evaluate-diff-of-spec : {M : Type 1} → statement M
 evaluate-diff-of-spec = tie.close (tie.spec parts-of-requires combine-requires returns)

@@ -1,46 +1,36 @@
 -- `evaluators::values_at` meets its contract: each evaluator says its own column. Assumes nothing.
 use mathlib.Core.Path.{ap, _∙_}
 use mathlib.Core.List.{[], _∷_}
-use Prim.Native.Nat.{_-_}
 use Rattle.osu_object.specs.Osu.{objectOf}
-use Rattle.osu_object.specs.Base.{repeatsOf}
 use Rattle.records.specs.Rows.{recordAt}
-use Rattle.records.specs.Sight.{viewOf}
-use Rattle.flashlight.specs.Flashlight.{flashlightOf}
+use Rattle.flashlight.specs.Flashlight.{flashlightAtPlace}
 use Rattle.evaluators.specs.Values.{rowOf, valuesOf}
 use borrow.Author.Needs.{needs}
 use Rattle.evaluators.proofs.values_at.Statement.{statement}
 use Rattle.evaluators.proofs.values_at.Tie as tie
 
--- src/lib.rt:25:9
 evaluator-of-requires : tie.Need-evaluator-of-requires
 evaluator-of-requires c κs = search needs
 
--- src/lib.rt:27:14
 evaluate-place-requires : tie.Need-evaluate-place-requires
 evaluate-place-requires c κs = search needs
 
--- src/lib.rt:28:25
 evaluate-place-requires-2 : tie.Need-evaluate-place-requires-2
 evaluate-place-requires-2 c κs = search needs
 
--- src/lib.rt:29:16
 evaluate-place-requires-3 : tie.Need-evaluate-place-requires-3
 evaluate-place-requires-3 c κs = search needs
 
--- src/lib.rt:30:17
 evaluate-place-requires-4 : tie.Need-evaluate-place-requires-4
 evaluate-place-requires-4 c κs = search needs
 
--- src/lib.rt:31:21
 evaluate-place-requires-5 : tie.Need-evaluate-place-requires-5
 evaluate-place-requires-5 c κs = search needs
 
--- src/lib.rt:20:1
 returns : tie.Need-returns
 unfolding rowOf valuesOf
 returns c = λ i. c .before .before .before .before .evaluate-place .ensures i ∷ c .before .before .before .evaluate-place2 .ensures i ∷ c .before .before .evaluate-place3 .ensures i ∷ c .before .evaluate-place4 .ensures i ∷ (c .evaluate-place5 .ensures
-    ∙ ap (λ e. flashlightOf e (viewOf (objectOf (c .before .before .before .before .before .before .before .before .args .chart .now) (c .before .before .before .before .before .before .before .before .args .lay)) (recordAt (c .before .before .before .before .before .before .before .before .args .t .now)) (c .before .before .before .before .before .before .before .before .args .j)) (c .before .before .before .before .before .before .before .before .args .j - 1) (repeatsOf (objectOf (c .before .before .before .before .before .before .before .before .args .chart .now) (c .before .before .before .before .before .before .before .before .args .lay) (c .before .before .before .before .before .before .before .before .args .j))) (c .before .before .before .before .before .before .before .before .args .set .hidden))
+    ∙ ap (λ e. flashlightAtPlace e (objectOf (c .before .before .before .before .before .before .before .before .args .chart .now) (c .before .before .before .before .before .before .before .before .args .lay)) (recordAt (c .before .before .before .before .before .before .before .before .args .t .now)) (c .before .before .before .before .before .before .before .before .args .j) (c .before .before .before .before .before .before .before .before .args .set .hidden))
     (c .before .before .before .before .before .evaluator-of .ensures)) i ∷ []
 
 pub values-at-spec : {M : Type 1} → statement M

@@ -1,5 +1,5 @@
 -- `osu_object::base_at` meets its contract. Assumes nothing.
-use Rattle.osu_object.proofs.Reading.{slides-there, base-from}
+use Rattle.osu_object.proofs.Reading.{base-from}
 use borrow.Author.Needs.{needs}
 use Rattle.osu_object.proofs.base_at.Statement.{statement}
 use Rattle.osu_object.proofs.base_at.Tie as tie
@@ -10,9 +10,6 @@ fields-of-requires c κs = search needs
 new-requires : tie.Need-new-requires
 new-requires c κs = search needs
 
-new-requires-2 : tie.Need-new-requires-2
-new-requires-2 c κs = search needs
-
 is-slider-requires : tie.Need-is-slider-requires
 is-slider-requires c κs = search needs
 
@@ -22,21 +19,10 @@ is-spinner-requires c κs = search needs
 stacked-pos-requires : tie.Need-stacked-pos-requires
 stacked-pos-requires c κs = search needs
 
-stacked-end-pos-requires : tie.Need-stacked-end-pos-requires
-stacked-end-pos-requires c κs = slides-there _ _ _ _ (c .before .before .before .before .before .fields-of .ensures) _ (c .before .before .before .before .new .ensures) _ (c .before .before .before .new2 .ensures) (c .before .before .before .before .before .before .before .pre .0) (c .before .before .before .before .before .before .before .pre .1)
-
 returns : tie.Need-returns
-returns c = simp (c .stacked-end-pos .ensures, c .before .stacked-pos .ensures, c .before .before .is-spinner .ensures, c .before .before .before .is-slider .ensures) (base-from _ _ _ _ (c .before .before .before .before .before .before .fields-of .ensures) _ (c .before .before .before .before .before .new .ensures) _ (c .before .before .before .before .new2 .ensures))
+returns c = simp (c .stacked-pos .ensures, c .before .is-spinner .ensures, c .before .before .is-slider .ensures) (base-from _ _ _ _ (c .before .before .before .before .fields-of .ensures) _ (c .before .before .before .new .ensures))
 
 pub base-at-spec : {M : Type 1} → statement M
 base-at-spec =
     tie.close
-    (tie.spec
-    fields-of-requires
-    new-requires
-    new-requires-2
-    is-slider-requires
-    is-spinner-requires
-    stacked-pos-requires
-    stacked-end-pos-requires
-    returns)
+    (tie.spec fields-of-requires new-requires is-slider-requires is-spinner-requires stacked-pos-requires returns)

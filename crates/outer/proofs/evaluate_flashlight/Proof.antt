@@ -1,7 +1,7 @@
 -- `outer::evaluate_flashlight` meets its contract: a walk of its MIR, by hand. It makes the window and calls the covered evaluator on it.
 -- Assumes nothing.
 use mathlib.Core.Path.{refl}
-use Prim.Native.Nat.{ℕ, _-_, _≤_, _<_}
+use Prim.Native.Nat.{ℕ, _≤_, _<_}
 use mathlib.Core.List.{List, [], _∷_}
 use lib.Ieee.{Float, binary64}
 use lib.ListN.{length}
@@ -36,9 +36,7 @@ use denote.Triple.Walked.{says, needs, Stays, stay-none, stay-none-slice, walkOf
 use denote.Exit.{yes}
 use Rattle.outer.proofs.Calls.{Of, calls-with, held-asks}
 use Rattle.osu_object.specs.Osu.{Object, Ready, objectOf}
-use Rattle.osu_object.specs.Base.{repeatsOf}
-use Rattle.records.specs.Sight.{viewOf}
-use Rattle.flashlight.specs.Flashlight.{flashlightOf}
+use Rattle.flashlight.specs.Flashlight.{flashlightAtPlace}
 use Rattle.object.specs.declared.OsuDifficultyObject.{OsuDifficultyObject as Record}
 use Rattle.outer.specs.Records.{recordOf, windowOf, inWindow}
 use Rattle.outer.proofs.Both.{Both, both-had, both-gives, held-needs}
@@ -95,7 +93,7 @@ module _ {M : Type 1} (𝓤 : URA M) (H : Heap 𝓤) (A : Atoms 𝓤) (W : Given
 
   -- the value over the window
   abbrev r : Float
-  r = flashlightOf (a .1 .1 .0) (viewOf os (inWindow w j) j) (j - 1) (repeatsOf (os j)) (a .1 .1 .1 .0)
+  r = flashlightAtPlace (a .1 .1 .0) os (inWindow w j) j (a .1 .1 .1 .0)
 
   module _ (C : Calls 𝓤 H) (Λ : Loops 𝓤 H) (fm : FmC 𝓤 H (W .laws) C) (known : Known 𝓤 H A mem run C) where
     walk : Room R (length (x .now)) → Room u8 (length (z .now)) → Are Ps (Ises Ps) a vss → Ready (z .now) (a .0) × (1 ≤ j) × (j < a .0 .n)
@@ -119,7 +117,7 @@ module _ {M : Type 1} (𝓤 : URA M) (H : Heap 𝓤) (A : Atoms 𝓤) (W : Given
         returns ! (look ! 16 refl) $ forget ! 2 refl $ forget ! 4 refl $ forget ! 6 refl $ forget ! 8 refl $ forget ! 10 refl $ forget ! 12 refl $ forget ! 14 refl $ forget ! 16 refl $
         move ! (16 ∷ 17 ∷ []) $ free1 ! $ move ! (14 ∷ 15 ∷ []) $ free1 ! $ move ! (12 ∷ 13 ∷ []) $ free1 ! $ move ! (10 ∷ 11 ∷ []) $ free1 ! $ move ! (8 ∷ 9 ∷ []) $ free1 ! $ move ! (6 ∷ 7 ∷ []) $ free1 ! $ move ! (4 ∷ 5 ∷ []) $ free1 ! $ move ! (2 ∷ 3 ∷ []) $ free1 ! $ free0 ! $ move ! (1 ∷ 0 ∷ []) $ join ! $
         suffices ! _ (ends-at 𝓤 H A f.ended stayed (f.clauses 𝓤 H A mem run) W (((κ, (κ′, tt)), (q, (q′, tt)), tt, (x, (z, a)), (slice-vals x, (slice-vals z, vss))), tt) (vfloat binary64 r) r (tt, (tt, (tt, (tt, (tt, (tt, tt)))))) (tt, (tt, (tt, (tt, (tt, (tt, tt))))))) $
-        says ! (flashlight-seen os (inWindow w j) (recordOf (x .now)) j (pre .1) (window-agrees (x .now) j) (a .1 .1 .0) (repeatsOf (os j)) (a .1 .1 .1 .0)) $
+        says ! (flashlight-seen os (inWindow w j) (recordOf (x .now)) j (pre .1) (window-agrees (x .now) j) (a .1 .1 .0) (a .1 .1 .1 .0)) $
         by ! (both-gives 𝓤 H A W R u8 κ κ′ q q′ x z Ps a vss mk are f64 (float-makes 𝓤 H A W binary64) r _ g)))))))))))
 
 module _ {M : Type 1} (𝓤 : URA M) (H : Heap 𝓤) (A : Atoms 𝓤) (W : Given 𝓤 H A) (mem : Memory → SProp 𝓤) (run : Routine → Fun 𝓤) where

@@ -36,7 +36,8 @@ use denote.Triple.Table.{entered, cited}
 use denote.Triple.Walked.{says, needs, Stays, stay-none, stay-none-slice, walkOf, goes-none, goes-none-slice, Walks, ends-at, walked, walk-meets}
 use denote.Exit.{yes}
 use Rattle.outer.proofs.Calls.{Of, calls-with, held-asks}
-use Rattle.osu_object.specs.Osu.{Object, Ready, objectOf}
+use Rattle.objects.specs.Objects.{Holds}
+use Rattle.osu_object.specs.Osu.{Object, objectOf}
 use Rattle.rhythm.specs.Rhythm.{rhythmAtPlace}
 use Rattle.object.specs.declared.OsuDifficultyObject.{OsuDifficultyObject as Record}
 use Rattle.outer.specs.Records.{recordOf, windowOf, inWindow}
@@ -113,7 +114,7 @@ module _ {M : Type 1} (𝓤 : URA M) (H : Heap 𝓤) (A : Atoms 𝓤) (W : Given
   r = rhythmAtPlace os (inWindow w j) n j (a .1 .1 .0)
 
   module _ (C : Calls 𝓤 H) (Λ : Loops 𝓤 H) (fm : FmC 𝓤 H (W .laws) C) (known : Known 𝓤 H A mem run C) where
-    walk : Room R (length (x .now)) → Room u8 (length (z .now)) → Are Ps (Ises Ps) a vss → Ready (z .now) (a .0) × (1 ≤ j) × (j < a .0 .n)
+    walk : Room R (length (x .now)) → Room u8 (length (z .now)) → Are Ps (Ises Ps) a vss → Holds (z .now) (a .0) × (1 ≤ j) × (j < a .0 .n)
         → ent 𝓤 (onEntry 𝓤 H A f.signature (κ, (κ′, tt)) (q, (q′, tt)) (x, (z, a)) (slice-vals x, (slice-vals z, vss)))
         (WpFn 𝓤 H C Λ code.function (sliceVal (x .ptr) (length (x .now)) ∷ sliceVal (z .ptr) (length (z .now)) ∷ lmach (a .0) ∷ vint w64 (a .1 .0) ∷ vfloat binary64 (a .1 .1 .0) ∷ []) Post)
     walk gx gz are pre =

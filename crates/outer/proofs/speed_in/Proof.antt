@@ -2,8 +2,8 @@
 use mathlib.Core.Path.{_∙_}
 use native.Mathlib.Omega.{arith}
 use denote.Ref.{now}
-use Rattle.outer.proofs.Seen.{speed-table}
 use borrow.Author.Needs.{needs}
+use Rattle.outer.proofs.Seen.{speed-table}
 use Rattle.outer.proofs.speed_in.Statement.{statement}
 use Rattle.outer.proofs.speed_in.Tie as tie
 
@@ -13,11 +13,8 @@ slice-aggregate-put-window c = search needs
 put-window-requires : tie.Need-put-window-requires
 put-window-requires c κs = search needs
 
-first-place-requires : tie.Need-first-place-requires
-first-place-requires c κs = search needs
-
-last-place-requires : tie.Need-last-place-requires
-last-place-requires c κs = search needs
+part-in-requires : tie.Need-part-in-requires
+part-in-requires c κs = search needs
 
 slice-aggregate-evaluate-diff-of : tie.Need-slice-aggregate-evaluate-diff-of
 slice-aggregate-evaluate-diff-of c = search needs
@@ -27,9 +24,9 @@ evaluate-diff-of-requires c κs = search needs
 
 returns : tie.Need-returns
 returns c =
-    let a = c .before .before .before .before .before .before .before .before .args in
+    let a = c .before .before .before .before .before .before .before .args in
     c .evaluate-diff-of .ensures
-    ∙ speed-table (now (a .chart)) (a .lay) (a .w) _ _ (a .j) (c .before .before .before .first-place .result) (c .before .before .before .before .before .before .before .before .pre .2) (c .before .before .before .first-place .ensures) (omega arith) (c .before .before .before .before .before .before .before .before .pre .0) (c .before .before .before .before .before .put-window .ensures) _ _ (c .before .before .last-place .ensures .0) (a .hit-window) (a .autopilot)
+    ∙ speed-table (now (a .chart)) (a .lay) (a .w) _ _ (a .j) (c .before .before .part-in .result) (c .before .before .before .before .before .before .before .pre .2) (c .before .before .part-in .ensures .0) (omega arith) (c .before .before .before .before .before .before .before .pre .0) (c .before .before .before .before .put-window .ensures) _ (c .before .before .part-in .ensures .1) (a .hit-window) (a .autopilot)
 
 pub speed-in-spec : {M : Type 1} → statement M
 speed-in-spec =
@@ -37,8 +34,7 @@ speed-in-spec =
     (tie.spec
     slice-aggregate-put-window
     put-window-requires
-    first-place-requires
-    last-place-requires
+    part-in-requires
     slice-aggregate-evaluate-diff-of
     evaluate-diff-of-requires
     returns)

@@ -47,16 +47,14 @@ use Rattle.outer.proofs.Lends.{sliceAt, lends-front, takes-array}
 use Rattle.objects.specs.declared.Layout.{Layout}
 use Rattle.opening.specs.declared.Settings.{Settings}
 use Rattle.osu_object.specs.Osu.{Object, Ready, objectOf}
-use Rattle.osu_object.specs.Base.{repeatsOf}
 use Rattle.object.specs.declared.OsuDifficultyObject.{OsuDifficultyObject as Record}
 use Rattle.object.proofs.OsuDifficultyObject as T
 use Rattle.object.proofs.OsuDifficultyObject.Laws as T′
-use Rattle.records.specs.Sight.{viewOf}
-use Rattle.aim.specs.Aim.{aimOf}
+use Rattle.aim.specs.Aim.{aimAtPlace}
 use Rattle.speed.specs.Speed.{speedAtPlace}
 use Rattle.rhythm.specs.Rhythm.{rhythmAtPlace}
 use Rattle.flashlight.specs.declared.FlashlightEvaluator.{FlashlightEvaluator}
-use Rattle.flashlight.specs.Flashlight.{evaluatorOf, flashlightOf}
+use Rattle.flashlight.specs.Flashlight.{evaluatorOf, flashlightAtPlace}
 use Rattle.evaluators.specs.declared.Values.{Values}
 use Rattle.evaluators.specs.Values.{rowOf, valuesOf}
 use Rattle.outer.specs.Records.{recordOf}
@@ -162,7 +160,7 @@ module _ {M : Type 1} (𝓤 : URA M) (H : Heap 𝓤) (A : Atoms 𝓤) (W : Given
 
   -- the five values
   abbrev aim-is : Bool → Float
-  aim-is sliders = aimOf (viewOf os (recordOf rs) j) (j - 1) sliders
+  aim-is sliders = aimAtPlace os (recordOf rs) j sliders
 
   abbrev speed-is : Float
   speed-is = speedAtPlace os (recordOf rs) (length rs) j (set .«hit_window») (set .autopilot)
@@ -171,7 +169,7 @@ module _ {M : Type 1} (𝓤 : URA M) (H : Heap 𝓤) (A : Atoms 𝓤) (W : Given
   rhythm-is = rhythmAtPlace os (recordOf rs) (length rs) j (set .«hit_window»)
 
   abbrev flashlight-is : Float
-  flashlight-is = flashlightOf light (viewOf os (recordOf rs) j) (j - 1) (repeatsOf (os j)) (set .hidden)
+  flashlight-is = flashlightAtPlace light os (recordOf rs) j (set .hidden)
 
   abbrev v : Values
   v = gatheredOf (aim-is true) (aim-is false) speed-is rhythm-is flashlight-is
@@ -213,22 +211,22 @@ module _ {M : Type 1} (𝓤 : URA M) (H : Heap 𝓤) (A : Atoms 𝓤) (W : Given
         move ! (17 ∷ []) $ lends-front ! tt R tt 64 vals (makes 𝓤 H A W) tells (copy 𝓤 H A W) t gt (room (length t) len) len l₇ m (λ α γ. move ! (0 ∷ 2 ∷ []) $ join ! $
         -- [the records and the chart; the lender's part; _15; …; _8; …; _7's end; _6; …; _0; …]
         calls-with ! fm aim.ended (aim.clauses 𝓤 H A mem run) (known .of-aim) (((α ∷ [], (κ, tt)), (fullShare, (q, tt)), tt, (sl γ l₇, (z, (lay, (j, (true, tt))))), (slice-vals (sl γ l₇), (slice-vals z, (lvals lay, (vint w64 j ∷ [], (vbool (true) ∷ [], tt)))))), tt)
-        (Kept 𝓤 H A W R u8 (α ∷ []) κ fullShare q (sl γ l₇) z) (both-asks 𝓤 H A W R u8 (α ∷ []) κ fullShare q (sl γ l₇) z (LR ∷ usize ∷ bool ∷ []) (lay, (j, (true, tt))) (lvals lay, (vint w64 j ∷ [], (vbool (true) ∷ [], tt))) (lmakes 𝓤 H A W, (uint-makes 𝓤 H A W w64, (bool-makes 𝓤 H A W, tt))) (gl, (gj, (refl, tt))) _ (pre .0, pre .1, pre .2)) (both-back 𝓤 H A W R u8 (α ∷ []) κ fullShare q (sl γ l₇) z)
+        (Kept 𝓤 H A W R u8 (α ∷ []) κ fullShare q (sl γ l₇) z) (both-asks 𝓤 H A W R u8 (α ∷ []) κ fullShare q (sl γ l₇) z (LR ∷ usize ∷ bool ∷ []) (lay, (j, (true, tt))) (lvals lay, (vint w64 j ∷ [], (vbool (true) ∷ [], tt))) (lmakes 𝓤 H A W, (uint-makes 𝓤 H A W w64, (bool-makes 𝓤 H A W, tt))) (gl, (gj, (refl, tt))) _ (pre .0 .holds, pre .1, pre .2)) (both-back 𝓤 H A W R u8 (α ∷ []) κ fullShare q (sl γ l₇) z)
         (aim-is true) (λ r e. id⊢ 𝓤 _) (float-vals binary64) (float-tells binary64)
         (and-then ! (load ! (from ! (stop !)) (look ! 14 refl)) (and-then ! (load ! (from ! (stop !)) (look ! 29 refl)) (and-then ! (load ! (from ! (stop !)) (look ! 23 refl)) (and-then ! (load ! (from ! (stop !)) (look ! 19 refl)) (and-then ! (true-lit !) (no-more !))))))
         (λ g₉. land ! (from ! (stop !)) (init ! 12 refl (float-lawful 𝓤 H A W binary64 .typed _ _ g₉ .0)) $
         calls-with ! fm aim.ended (aim.clauses 𝓤 H A mem run) (known .of-aim) (((α ∷ [], (κ, tt)), (fullShare, (q, tt)), tt, (sl γ l₇, (z, (lay, (j, (false, tt))))), (slice-vals (sl γ l₇), (slice-vals z, (lvals lay, (vint w64 j ∷ [], (vbool (false) ∷ [], tt)))))), tt)
-        (Kept 𝓤 H A W R u8 (α ∷ []) κ fullShare q (sl γ l₇) z) (both-asks 𝓤 H A W R u8 (α ∷ []) κ fullShare q (sl γ l₇) z (LR ∷ usize ∷ bool ∷ []) (lay, (j, (false, tt))) (lvals lay, (vint w64 j ∷ [], (vbool (false) ∷ [], tt))) (lmakes 𝓤 H A W, (uint-makes 𝓤 H A W w64, (bool-makes 𝓤 H A W, tt))) (gl, (gj, (refl, tt))) _ (pre .0, pre .1, pre .2)) (both-back 𝓤 H A W R u8 (α ∷ []) κ fullShare q (sl γ l₇) z)
+        (Kept 𝓤 H A W R u8 (α ∷ []) κ fullShare q (sl γ l₇) z) (both-asks 𝓤 H A W R u8 (α ∷ []) κ fullShare q (sl γ l₇) z (LR ∷ usize ∷ bool ∷ []) (lay, (j, (false, tt))) (lvals lay, (vint w64 j ∷ [], (vbool (false) ∷ [], tt))) (lmakes 𝓤 H A W, (uint-makes 𝓤 H A W w64, (bool-makes 𝓤 H A W, tt))) (gl, (gj, (refl, tt))) _ (pre .0 .holds, pre .1, pre .2)) (both-back 𝓤 H A W R u8 (α ∷ []) κ fullShare q (sl γ l₇) z)
         (aim-is false) (λ r e. id⊢ 𝓤 _) (float-vals binary64) (float-tells binary64)
         (and-then ! (load ! (from ! (stop !)) (look ! 14 refl)) (and-then ! (load ! (from ! (stop !)) (look ! 29 refl)) (and-then ! (load ! (from ! (stop !)) (look ! 23 refl)) (and-then ! (load ! (from ! (stop !)) (look ! 19 refl)) (and-then ! (false-lit !) (no-more !))))))
         (λ g₁₀. land ! (from ! (stop !)) (init ! 10 refl (float-lawful 𝓤 H A W binary64 .typed _ _ g₁₀ .0)) $
         calls-with ! fm speed.ended (speed.clauses 𝓤 H A mem run) (known .of-speed) (((α ∷ [], (κ, tt)), (fullShare, (q, tt)), tt, (sl γ l₇, (z, (lay, (j, (set .«hit_window», (set .autopilot, tt)))))), (slice-vals (sl γ l₇), (slice-vals z, (lvals lay, (vint w64 j ∷ [], (vfloat binary64 (set .«hit_window») ∷ [], (vbool (set .autopilot) ∷ [], tt))))))), tt)
-        (Kept 𝓤 H A W R u8 (α ∷ []) κ fullShare q (sl γ l₇) z) (both-asks 𝓤 H A W R u8 (α ∷ []) κ fullShare q (sl γ l₇) z (LR ∷ usize ∷ f64 ∷ bool ∷ []) (lay, (j, (set .«hit_window», (set .autopilot, tt)))) (lvals lay, (vint w64 j ∷ [], (vfloat binary64 (set .«hit_window») ∷ [], (vbool (set .autopilot) ∷ [], tt)))) (lmakes 𝓤 H A W, (uint-makes 𝓤 H A W w64, (float-makes 𝓤 H A W binary64, (bool-makes 𝓤 H A W, tt)))) (gl, (gj, (gh, (refl, tt)))) _ (pre .0, pre .1, pre .2)) (both-back 𝓤 H A W R u8 (α ∷ []) κ fullShare q (sl γ l₇) z)
+        (Kept 𝓤 H A W R u8 (α ∷ []) κ fullShare q (sl γ l₇) z) (both-asks 𝓤 H A W R u8 (α ∷ []) κ fullShare q (sl γ l₇) z (LR ∷ usize ∷ f64 ∷ bool ∷ []) (lay, (j, (set .«hit_window», (set .autopilot, tt)))) (lvals lay, (vint w64 j ∷ [], (vfloat binary64 (set .«hit_window») ∷ [], (vbool (set .autopilot) ∷ [], tt)))) (lmakes 𝓤 H A W, (uint-makes 𝓤 H A W w64, (float-makes 𝓤 H A W binary64, (bool-makes 𝓤 H A W, tt)))) (gl, (gj, (gh, (refl, tt)))) _ (pre .0 .holds, pre .1, pre .2)) (both-back 𝓤 H A W R u8 (α ∷ []) κ fullShare q (sl γ l₇) z)
         speed-is (λ r e. id⊢ 𝓤 _) (float-vals binary64) (float-tells binary64)
         (and-then ! (load ! (from ! (stop !)) (look ! 14 refl)) (and-then ! (load ! (from ! (stop !)) (look ! 29 refl)) (and-then ! (load ! (from ! (stop !)) (look ! 23 refl)) (and-then ! (load ! (from ! (stop !)) (look ! 19 refl)) (and-then ! (load ! (from ! (fld ! refl (stop !))) (look-in ! 21 (sub ! 2 refl (whole !)))) (and-then ! (load ! (from ! (fld ! refl (stop !))) (look-in ! 21 (sub ! 7 refl (whole !)))) (no-more !)))))))
         (λ g₁₁. land ! (from ! (stop !)) (init ! 8 refl (float-lawful 𝓤 H A W binary64 .typed _ _ g₁₁ .0)) $
         calls-with ! fm rhythm.ended (rhythm.clauses 𝓤 H A mem run) (known .of-rhythm) (((α ∷ [], (κ, tt)), (fullShare, (q, tt)), tt, (sl γ l₇, (z, (lay, (j, (set .«hit_window», tt))))), (slice-vals (sl γ l₇), (slice-vals z, (lvals lay, (vint w64 j ∷ [], (vfloat binary64 (set .«hit_window») ∷ [], tt)))))), tt)
-        (Kept 𝓤 H A W R u8 (α ∷ []) κ fullShare q (sl γ l₇) z) (both-asks 𝓤 H A W R u8 (α ∷ []) κ fullShare q (sl γ l₇) z (LR ∷ usize ∷ f64 ∷ []) (lay, (j, (set .«hit_window», tt))) (lvals lay, (vint w64 j ∷ [], (vfloat binary64 (set .«hit_window») ∷ [], tt))) (lmakes 𝓤 H A W, (uint-makes 𝓤 H A W w64, (float-makes 𝓤 H A W binary64, tt))) (gl, (gj, (gh, tt))) _ (pre .0, pre .1, pre .2)) (both-back 𝓤 H A W R u8 (α ∷ []) κ fullShare q (sl γ l₇) z)
+        (Kept 𝓤 H A W R u8 (α ∷ []) κ fullShare q (sl γ l₇) z) (both-asks 𝓤 H A W R u8 (α ∷ []) κ fullShare q (sl γ l₇) z (LR ∷ usize ∷ f64 ∷ []) (lay, (j, (set .«hit_window», tt))) (lvals lay, (vint w64 j ∷ [], (vfloat binary64 (set .«hit_window») ∷ [], tt))) (lmakes 𝓤 H A W, (uint-makes 𝓤 H A W w64, (float-makes 𝓤 H A W binary64, tt))) (gl, (gj, (gh, tt))) _ (pre .0 .holds, pre .1, pre .2)) (both-back 𝓤 H A W R u8 (α ∷ []) κ fullShare q (sl γ l₇) z)
         rhythm-is (λ r e. id⊢ 𝓤 _) (float-vals binary64) (float-tells binary64)
         (and-then ! (load ! (from ! (stop !)) (look ! 14 refl)) (and-then ! (load ! (from ! (stop !)) (look ! 29 refl)) (and-then ! (load ! (from ! (stop !)) (look ! 23 refl)) (and-then ! (load ! (from ! (stop !)) (look ! 19 refl)) (and-then ! (load ! (from ! (fld ! refl (stop !))) (look-in ! 21 (sub ! 2 refl (whole !)))) (no-more !))))))
         (λ g₁₂. land ! (from ! (stop !)) (init ! 6 refl (float-lawful 𝓤 H A W binary64 .typed _ _ g₁₂ .0)) $

@@ -1,7 +1,11 @@
 -- `records::sight_at` meets its contract. Assumes nothing.
+use native.Mathlib.Omega.{arith}
 use borrow.Author.Needs.{needs}
 use Rattle.records.proofs.sight_at.Statement.{statement}
 use Rattle.records.proofs.sight_at.Tie as tie
+
+sub-record-at : tie.Need-sub-record-at
+sub-record-at c = search needs
 
 record-at-requires : tie.Need-record-at-requires
 record-at-requires c κs = search needs
@@ -13,4 +17,4 @@ returns : tie.Need-returns
 returns c = simp (c .base-at .ensures, c .before .record-at .ensures)
 
 pub sight-at-spec : {M : Type 1} → statement M
-sight-at-spec = tie.close (tie.spec record-at-requires base-at-requires returns)
+sight-at-spec = tie.close (tie.spec sub-record-at record-at-requires base-at-requires returns)

@@ -3,23 +3,21 @@ use Prim.Native.Nat.{_≤_, _-_}
 use mathlib.Core.Path.{_≡_, sym, _∙_}
 use native.Mathlib.Nat.{sub-zero}
 use denote.Ref.{now}
-use borrow.Author.Needs.{needs}
 use Rattle.osu_object.specs.Osu.{objectOf}
 use Rattle.records.specs.Part.{partAt}
-use Rattle.rhythm.specs.Rhythm.{cellsOf, startFrom, startOf}
+use Rattle.rhythm.specs.Rhythm.{cellsAt, startFrom, startOf}
 use Rattle.rhythm.proofs.History.{near-is, start-more, start-stop, start-done, cell-here}
+use borrow.Author.Needs.{needs}
 use Rattle.rhythm.proofs.rhythm_start.Statement.{statement}
 use Rattle.rhythm.proofs.rhythm_start.Tie as tie
 
 abbrev Inv-loop : tie.InvT-loop
-Inv-loop t first chart lay j hist here r₀ r =
-    (r ≤ hist - 2) × (startFrom (cellsOf (objectOf chart lay) (partAt t first) j) hist (hist - r) r ≡ startOf (cellsOf (objectOf chart lay) (partAt t first) j) hist)
+Inv-loop t part chart lay j here hist r₀ r =
+    (r ≤ hist - 2)
+    × (startFrom (cellsAt (objectOf chart lay) (partAt t part) j) hist (hist - r) r ≡ startOf (cellsAt (objectOf chart lay) (partAt t part) j) hist)
 
 abbrev μ-loop : tie.MeasureT-loop
-μ-loop t first chart lay j hist here r₀ r = hist - r
-
-cell-at-requires : tie.Need-cell-at-requires Inv-loop μ-loop
-cell-at-requires c κs = search needs
+μ-loop t part chart lay j here hist r₀ r = hist - r
 
 loop-holds : tie.Need-loop-holds Inv-loop μ-loop
 unfolding startOf
@@ -34,8 +32,8 @@ add-cell-at c = search needs
 sub-cell-at : tie.Need-sub-cell-at Inv-loop μ-loop
 sub-cell-at c = search needs
 
-cell-at-requires-2 : tie.Need-cell-at-requires-2 Inv-loop μ-loop
-cell-at-requires-2 c κs = search needs
+cell-at-requires : tie.Need-cell-at-requires Inv-loop μ-loop
+cell-at-requires c κs = search needs
 
 add-r : tie.Need-add-r Inv-loop μ-loop
 add-r c = search needs
@@ -46,23 +44,21 @@ loop-less c = search needs
 loop-again : tie.Need-loop-again Inv-loop μ-loop
 loop-again c = (
   search needs,
-  sym (start-more (cellsOf (objectOf (now (c .before .before .before .before .before .before .before .before .before .args .chart)) (c .before .before .before .before .before .before .before .before .before .args .lay)) (partAt (now (c .before .before .before .before .before .before .before .before .before .args .t)) (c .before .before .before .before .before .before .before .before .before .args .first)) (c .before .before .before .before .before .before .before .before .before .args .j)) (c .before .before .before .before .before .before .before .before .before .args .hist) (c .before .before .before .before .before .loop .r) (search needs)
-      (near-is (cellsOf (objectOf (now (c .before .before .before .before .before .before .before .before .before .args .chart)) (c .before .before .before .before .before .before .before .before .before .args .lay)) (partAt (now (c .before .before .before .before .before .before .before .before .before .args .t)) (c .before .before .before .before .before .before .before .before .before .args .first)) (c .before .before .before .before .before .before .before .before .before .args .j)) (c .before .before .before .before .before .before .before .before .before .args .hist) (c .before .before .before .before .before .loop .r) _ _ _ (search needs)
-      (cell-here (objectOf (now (c .before .before .before .before .before .before .before .before .before .args .chart)) (c .before .before .before .before .before .before .before .before .before .args .lay)) (partAt (now (c .before .before .before .before .before .before .before .before .before .args .t)) (c .before .before .before .before .before .before .before .before .before .args .first)) (c .before .before .before .before .before .before .before .before .before .args .j) _ (c .before .before .before .before .before .before .cell-at .ensures))
-      (c .before .before .before .cell-at2 .ensures) (c .if1 .taken))) ∙ c .before .before .before .before .before .loop .inv .1,
+  sym (start-more (cellsAt (objectOf (now (c .before .before .before .before .before .before .before .before .args .chart)) (c .before .before .before .before .before .before .before .before .args .lay)) (partAt (now (c .before .before .before .before .before .before .before .before .args .t)) (c .before .before .before .before .before .before .before .before .args .part)) (c .before .before .before .before .before .before .before .before .args .j)) (c .before .before .before .before .before .before .before .before .args .hist) (c .before .before .before .before .before .loop .r) (search needs)
+      (near-is (cellsAt (objectOf (now (c .before .before .before .before .before .before .before .before .args .chart)) (c .before .before .before .before .before .before .before .before .args .lay)) (partAt (now (c .before .before .before .before .before .before .before .before .args .t)) (c .before .before .before .before .before .before .before .before .args .part)) (c .before .before .before .before .before .before .before .before .args .j)) (c .before .before .before .before .before .before .before .before .args .hist) (c .before .before .before .before .before .loop .r) _ _ _ (search needs)
+      (cell-here (objectOf (now (c .before .before .before .before .before .before .before .before .args .chart)) (c .before .before .before .before .before .before .before .before .args .lay)) (partAt (now (c .before .before .before .before .before .before .before .before .args .t)) (c .before .before .before .before .before .before .before .before .args .part)) (c .before .before .before .before .before .before .before .before .args .j) _ (c .before .before .before .before .before .before .before .before .pre .5)) (c .before .before .before .cell-at .ensures) (c .if1 .taken))) ∙ c .before .before .before .before .before .loop .inv .1,
 )
 
 returns : tie.Need-returns Inv-loop μ-loop
 returns c = (
-  sym (start-stop (cellsOf (objectOf (now (c .before .before .before .before .before .before .before .before .before .args .chart)) (c .before .before .before .before .before .before .before .before .before .args .lay)) (partAt (now (c .before .before .before .before .before .before .before .before .before .args .t)) (c .before .before .before .before .before .before .before .before .before .args .first)) (c .before .before .before .before .before .before .before .before .before .args .j)) (c .before .before .before .before .before .before .before .before .before .args .hist) (c .before .before .before .before .before .loop .r) (search needs)
-      (near-is (cellsOf (objectOf (now (c .before .before .before .before .before .before .before .before .before .args .chart)) (c .before .before .before .before .before .before .before .before .before .args .lay)) (partAt (now (c .before .before .before .before .before .before .before .before .before .args .t)) (c .before .before .before .before .before .before .before .before .before .args .first)) (c .before .before .before .before .before .before .before .before .before .args .j)) (c .before .before .before .before .before .before .before .before .before .args .hist) (c .before .before .before .before .before .loop .r) _ _ _ (search needs)
-      (cell-here (objectOf (now (c .before .before .before .before .before .before .before .before .before .args .chart)) (c .before .before .before .before .before .before .before .before .before .args .lay)) (partAt (now (c .before .before .before .before .before .before .before .before .before .args .t)) (c .before .before .before .before .before .before .before .before .before .args .first)) (c .before .before .before .before .before .before .before .before .before .args .j) _ (c .before .before .before .before .before .before .cell-at .ensures))
-      (c .before .before .before .cell-at2 .ensures) (c .if1 .left))) ∙ c .before .before .before .before .before .loop .inv .1,
+  sym (start-stop (cellsAt (objectOf (now (c .before .before .before .before .before .before .before .before .args .chart)) (c .before .before .before .before .before .before .before .before .args .lay)) (partAt (now (c .before .before .before .before .before .before .before .before .args .t)) (c .before .before .before .before .before .before .before .before .args .part)) (c .before .before .before .before .before .before .before .before .args .j)) (c .before .before .before .before .before .before .before .before .args .hist) (c .before .before .before .before .before .loop .r) (search needs)
+      (near-is (cellsAt (objectOf (now (c .before .before .before .before .before .before .before .before .args .chart)) (c .before .before .before .before .before .before .before .before .args .lay)) (partAt (now (c .before .before .before .before .before .before .before .before .args .t)) (c .before .before .before .before .before .before .before .before .args .part)) (c .before .before .before .before .before .before .before .before .args .j)) (c .before .before .before .before .before .before .before .before .args .hist) (c .before .before .before .before .before .loop .r) _ _ _ (search needs)
+      (cell-here (objectOf (now (c .before .before .before .before .before .before .before .before .args .chart)) (c .before .before .before .before .before .before .before .before .args .lay)) (partAt (now (c .before .before .before .before .before .before .before .before .args .t)) (c .before .before .before .before .before .before .before .before .args .part)) (c .before .before .before .before .before .before .before .before .args .j) _ (c .before .before .before .before .before .before .before .before .pre .5)) (c .before .before .before .cell-at .ensures) (c .if1 .left))) ∙ c .before .before .before .before .before .loop .inv .1,
   search needs,
 )
 
 returns-2 : tie.Need-returns-2 Inv-loop μ-loop
-returns-2 c = (sym (start-done (cellsOf (objectOf (now (c .before .before .before .before .before .args .chart)) (c .before .before .before .before .before .args .lay)) (partAt (now (c .before .before .before .before .before .args .t)) (c .before .before .before .before .before .args .first)) (c .before .before .before .before .before .args .j)) (c .before .before .before .before .before .args .hist) (c .before .loop .r) (search needs)) ∙ c .before .loop .inv .1, search needs)
+returns-2 c = (sym (start-done (cellsAt (objectOf (now (c .before .before .before .before .args .chart)) (c .before .before .before .before .args .lay)) (partAt (now (c .before .before .before .before .args .t)) (c .before .before .before .before .args .part)) (c .before .before .before .before .args .j)) (c .before .before .before .before .args .hist) (c .before .loop .r) (search needs)) ∙ c .before .loop .inv .1, search needs)
 
 pub rhythm-start-spec : {M : Type 1} → statement M
 rhythm-start-spec =
@@ -70,12 +66,11 @@ rhythm-start-spec =
     (tie.spec
     Inv-loop
     μ-loop
-    cell-at-requires
     loop-holds
     add-loop
     add-cell-at
     sub-cell-at
-    cell-at-requires-2
+    cell-at-requires
     add-r
     loop-less
     loop-again

@@ -1,11 +1,11 @@
 -- `speed::evaluate` meets its contract. Assumes nothing.
-use Rattle.speed.specs.Speed.{speedOf}
+use Rattle.speed.specs.Speed.{speedBy}
 use borrow.Author.Needs.{needs}
 use Rattle.speed.proofs.evaluate.Statement.{statement}
 use Rattle.speed.proofs.evaluate.Tie as tie
 
 returns : tie.Need-returns
-unfolding speedOf
+unfolding speedBy
 returns c = simp (c .if1 .taken)
 
 strain-time-requires : tie.Need-strain-time-requires
@@ -21,7 +21,7 @@ dist-bonus-requires : tie.Need-dist-bonus-requires
 dist-bonus-requires c κs = search needs
 
 returns-2 : tie.Need-returns-2
-unfolding speedOf
+unfolding speedBy
 returns-2 c = simp (c .dist-bonus .ensures, c .before .before .speed-bonus .ensures, c .before .before .before .get-doubletapness .ensures, c .before .before .before .before .strain-time .ensures, c .before .before .before .before .before .if1 .left)
 
 pub evaluate-spec : {M : Type 1} → statement M

@@ -1,6 +1,7 @@
 -- `speed::evaluate_diff_of` meets its contract. Assumes nothing.
 use borrow.Author.Tests.{le-ltb}
-use Rattle.speed.specs.Speed.{speedAtPlace}
+use native.Mathlib.Nat.{sub-zero}
+use Rattle.speed.specs.Speed.{speedOf}
 use Rattle.osu_object.specs.Osu.{objectOf}
 use borrow.Author.Tests.{lt-ltb}
 use Rattle.osu_object.specs.Base.{baseOf}
@@ -40,15 +41,15 @@ evaluate-requires : tie.Need-evaluate-requires
 evaluate-requires c κs = search needs
 
 returns : tie.Need-returns
-unfolding speedAtPlace objectOf baseOf
-returns c = simp (c .evaluate .ensures, c .before .record-at2 .ensures, lt-ltb _ _ (c .before .before .if1 .taken), c .before .before .before .travel-before .ensures, c .before .before .before .before .record-at .ensures, c .before .before .before .before .before .is-spinner .ensures, c .before .before .before .before .before .before .new .ensures, c .before .before .before .before .before .before .before .fields-of .ensures)
+unfolding speedOf objectOf baseOf
+returns c = simp (sub-zero, c .evaluate .ensures, c .before .record-at2 .ensures, lt-ltb _ _ (c .before .before .before .if1 .taken), c .before .before .before .before .before .travel-before .ensures, c .before .before .before .before .before .before .record-at .ensures, c .before .before .before .before .before .before .before .before .is-spinner .ensures, c .before .before .before .before .before .before .before .before .before .new .ensures, c .before .before .before .before .before .before .before .before .before .before .fields-of .ensures)
 
 evaluate-requires-2 : tie.Need-evaluate-requires-2
 evaluate-requires-2 c κs = search needs
 
 returns-2 : tie.Need-returns-2
-unfolding speedAtPlace objectOf baseOf
-returns-2 c = simp (c .evaluate2 .ensures, le-ltb _ _ (c .before .if1 .left), c .before .before .travel-before .ensures, c .before .before .before .record-at .ensures, c .before .before .before .before .is-spinner .ensures, c .before .before .before .before .before .new .ensures, c .before .before .before .before .before .before .fields-of .ensures) (no-next _ _ _ _ _ _ _)
+unfolding speedOf objectOf baseOf
+returns-2 c = simp (sub-zero, c .evaluate2 .ensures, le-ltb _ _ (c .before .if1 .left), c .before .before .before .travel-before .ensures, c .before .before .before .before .record-at .ensures, c .before .before .before .before .before .before .is-spinner .ensures, c .before .before .before .before .before .before .before .new .ensures, c .before .before .before .before .before .before .before .before .fields-of .ensures) (no-next _ _ _ _ _ _ _)
 
 pub evaluate-diff-of-spec : {M : Type 1} → statement M
 evaluate-diff-of-spec =

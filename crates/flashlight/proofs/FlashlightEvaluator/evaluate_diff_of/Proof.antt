@@ -1,6 +1,8 @@
 -- `flashlight::FlashlightEvaluator::evaluate_diff_of` meets its contract. Assumes nothing.
 use denote.Ref.{now}
 use mathlib.Core.Path.{_∙_}
+use Rattle.osu_object.specs.Osu.{objectOf}
+use Rattle.records.specs.Part.{partAt}
 use Rattle.flashlight.proofs.Repeats.{repeats-few}
 use Rattle.flashlight.proofs.Walk.{value-spinner, value-all}
 use borrow.Author.Needs.{needs}
@@ -11,7 +13,10 @@ sight-at-requires : tie.Need-sight-at-requires
 sight-at-requires c κs = search needs
 
 returns : tie.Need-returns
-returns c = value-spinner (c .before .before .before .before .before .args .self) (now (c .before .before .before .before .before .args .t)) (now (c .before .before .before .before .before .args .chart)) (c .before .before .before .before .before .args .lay) (c .before .before .before .before .before .args .i) (c .before .before .before .before .before .args .j) (c .before .before .before .before .before .args .hidden) _ (c .before .before .sight-at .ensures) _ (c .if1 .taken)
+returns c = value-spinner (c .before .before .before .before .before .args .self) (objectOf (now (c .before .before .before .before .before .args .chart)) (c .before .before .before .before .before .args .lay)) (partAt (now (c .before .before .before .before .before .args .t)) (c .before .before .before .before .before .args .part)) (c .before .before .before .before .before .args .j) (c .before .before .before .before .before .args .hidden) _ (c .before .before .sight-at .ensures) (c .if1 .taken)
+
+sub-turns : tie.Need-sub-turns
+sub-turns c = search needs
 
 turns-requires : tie.Need-turns-requires
 turns-requires c κs = search needs
@@ -23,11 +28,11 @@ repeats-at-requires : tie.Need-repeats-at-requires
 repeats-at-requires c κs = search needs
 
 value-requires : tie.Need-value-requires
-value-requires c κs = rw (c .repeats-at .ensures) (repeats-few _ _ _ (c .before .before .before .before .before .before .before .before .pre .3) (c .before .before .before .before .before .before .before .before .pre .4))
+value-requires c κs = rw (c .repeats-at .ensures) (repeats-few _ _ _ (c .before .before .before .before .before .before .before .before .pre .0) (c .before .before .before .before .before .before .before .before .pre .1))
 
 returns-2 : tie.Need-returns-2
 returns-2 c = c .value .ensures
-    ∙ value-all (c .before .before .before .before .before .before .before .before .before .args .self) (now (c .before .before .before .before .before .before .before .before .before .args .t)) (now (c .before .before .before .before .before .before .before .before .before .args .chart)) (c .before .before .before .before .before .before .before .before .before .args .lay) (c .before .before .before .before .before .before .before .before .before .args .i) (c .before .before .before .before .before .before .before .before .before .args .j) (c .before .before .before .before .before .before .before .before .before .args .hidden) _ (c .before .before .before .before .before .before .sight-at .ensures) _ _ _
+    ∙ value-all (c .before .before .before .before .before .before .before .before .before .args .self) (objectOf (now (c .before .before .before .before .before .before .before .before .before .args .chart)) (c .before .before .before .before .before .before .before .before .before .args .lay)) (partAt (now (c .before .before .before .before .before .before .before .before .before .args .t)) (c .before .before .before .before .before .before .before .before .before .args .part)) (c .before .before .before .before .before .before .before .before .before .args .j) (c .before .before .before .before .before .before .before .before .before .args .hidden) _ (c .before .before .before .before .before .before .sight-at .ensures) _ _ _
     (c .before .repeats-at .ensures) (c .before .before .before .before .if1 .left) (c .before .before .before .turns .ensures) (c .before .before .walk .ensures)
 
 pub evaluate-diff-of-spec : {M : Type 1} → statement M
@@ -36,6 +41,7 @@ evaluate-diff-of-spec =
     (tie.spec
     sight-at-requires
     returns
+    sub-turns
     turns-requires
     walk-requires
     repeats-at-requires
