@@ -2,6 +2,7 @@
 use Rattle.text.specs.Buffer.{same-text}
 use Rattle.listing.proofs.Room.{beyond-text, within-text}
 use borrow.Author.Needs.{needs}
+use native.Mathlib.Omega.{arith}
 use Rattle.listing.proofs.put_chart.Statement.{statement}
 use Rattle.listing.proofs.put_chart.Tie as tie
 
@@ -33,7 +34,10 @@ slice-aggregate-put-within-6 : tie.Need-slice-aggregate-put-within-6
 slice-aggregate-put-within-6 c = search needs
 
 put-within-requires : tie.Need-put-within-requires
-put-within-requires c κs = search needs
+put-within-requires c κs = (
+  (omega arith, record { records-room = omega arith; values-room = omega arith }),
+  record { aim-room = omega arith; still-room = omega arith; speed-room = omega arith; light-room = omega arith },
+)
 
 same-length-2 : tie.Need-same-length-2
 same-length-2 c = search needs
