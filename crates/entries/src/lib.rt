@@ -11,6 +11,21 @@ ghost use Rattle.entries.specs.Entries.{nestedAt, nestedOf, pointAt, poi
 use objects::Fields;
 use objects::Layout;
 
+// The bytes of a nested entry, and of a point.
+const NESTED_SIZE: usize = 24;
+
+const POINT_SIZE: usize = 16;
+
+// The kinds of nested entries: the Rust's NestedSliderObjectKind, by the chart's numbers.
+pub const TICK: u32 = 0;
+
+pub const REPEAT: u32 = 1;
+
+pub const TAIL: u32 = 2;
+
+// The length of a path, at most.
+const LONGEST_PATH: f64 = 1_000_000.0;
+
 // A nested entry's fields as they are stored: a tick, a repeat or the tail of a slider.
 pub struct Nested {
     pub start: f64,
@@ -46,7 +61,7 @@ pub fn nested_of(chart: &[u8], lay: Layout, e: usize) -> Nested
     requires { ⌜ Holds (now chart) lay × (e < lay .nested) ⌝ }
     ensures { λ r. ⌜ r ≡ nestedOf (now (chart .entry)) lay e ⌝ }
 {
-    nested_at(chart, lay.nested_at + 24 * e)
+    nested_at(chart, lay.nested_at + NESTED_SIZE * e)
 }
 
 // The point at an offset.
@@ -66,7 +81,7 @@ pub fn point_of(chart: &[u8], lay: Layout, e: usize) -> Point
     requires { ⌜ Holds (now chart) lay × (e < lay .points) ⌝ }
     ensures { λ r. ⌜ r ≡ pointOf (now (chart .entry)) lay e ⌝ }
 {
-    point_at(chart, lay.points_at + 16 * e)
+    point_at(chart, lay.points_at + POINT_SIZE * e)
 }
 
 // Whether a nested entry is right as the last of its slider's, or as another.
@@ -76,7 +91,7 @@ fn nested_ok(e: Nested, last: bool) -> bool
     objects::time_ok(e.start)
         & objects::coordinate_ok(e.x)
         & objects::coordinate_ok(e.y)
-        & (last & (e.kind == 2) | !last & (e.kind < 2))
+        & (last & (e.kind == TAIL) | !last & (e.kind < TAIL))
         & (e.zero == 0)
 }
 
@@ -122,7 +137,7 @@ fn point_ok(p: Point) -> bool
 {
     objects::coordinate_ok(p.x)
         & objects::coordinate_ok(p.y)
-        & ((0.0 <= p.length) & (p.length <= 1_000_000.0))
+        & ((0.0 <= p.length) & (p.length <= LONGEST_PATH))
 }
 
 // Whether point k of those from first on is wrong.
@@ -182,7 +197,7 @@ pub fn wrong_entries(chart: &[u8], lay: Layout, f: Fields) -> bool
     requires { ⌜ Holds (now chart) lay ⌝ }
     ensures { λ r. ⌜ r ≡ wrongEntries (now (chart .entry)) lay f ⌝ }
 {
-    if f.kind != 1 {
+    if f.kind != objects::SLIDER {
         return false;
     }
     !runs_ok(chart, lay, f)

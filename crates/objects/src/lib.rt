@@ -12,6 +12,27 @@ pub const HEADER_SIZE: usize = 80;
 
 pub const OBJECT_SIZE: usize = 56;
 
+// The kinds of objects.
+pub const CIRCLE: u32 = 0;
+
+pub const SLIDER: u32 = 1;
+
+pub const SPINNER: u32 = 2;
+
+// The latest time, in milliseconds.
+const LATEST_TIME: f64 = 10_000_000.0;
+
+// How far coordinates and stack offsets reach either side of 0.
+const FARTHEST_COORDINATE: f32 = 131_072.0;
+
+const FARTHEST_STACK: f32 = 1_024.0;
+
+// Spans, nested entries and points of a slider, each at most.
+const MOST_PER_SLIDER: usize = 1_024;
+
+// A slider's end minus its start, at least.
+const SHORTEST_SLIDER: f64 = 0.001;
+
 // The counts of a chart, an object's size in bytes, and the offsets of the two tables behind the objects: read from the header once.
 pub struct Layout {
     pub n: usize,
@@ -71,28 +92,28 @@ pub fn fields_of(chart: &[u8], lay: Layout, i: usize) -> Fields
 pub fn time_ok(t: f64) -> bool
     ensures { λ r. ⌜ r ≡ timeOk t ⌝ }
 {
-    (0.0 <= t) & (t <= 10_000_000.0)
+    (0.0 <= t) & (t <= LATEST_TIME)
 }
 
 // Whether x is a coordinate: within 131,072 either side of 0.
 pub fn coordinate_ok(x: f32) -> bool
     ensures { λ r. ⌜ r ≡ coordinateOk x ⌝ }
 {
-    (-131_072.0 <= x) & (x <= 131_072.0)
+    (-FARTHEST_COORDINATE <= x) & (x <= FARTHEST_COORDINATE)
 }
 
 // Whether x is a stack offset: within 1,024 either side of 0.
 fn stack_ok(x: f32) -> bool
     ensures { λ r. ⌜ r ≡ stackOk x ⌝ }
 {
-    (-1_024.0 <= x) & (x <= 1_024.0)
+    (-FARTHEST_STACK <= x) & (x <= FARTHEST_STACK)
 }
 
 // Whether n is a count of a slider: 1 to 1,024.
 fn count_ok(n: usize) -> bool
     ensures { λ r. ⌜ r ≡ countOk n ⌝ }
 {
-    (1 <= n) & (n <= 1_024)
+    (1 <= n) & (n <= MOST_PER_SLIDER)
 }
 
 // Whether the last five fields are 0, as a circle's and a spinner's are.
@@ -110,7 +131,7 @@ fn plain_ok(f: Fields) -> bool
 fn slider_ok(f: Fields) -> bool
     ensures { λ r. ⌜ r ≡ sliderOk f ⌝ }
 {
-    (0.001 <= f.end - f.start)
+    (SHORTEST_SLIDER <= f.end - f.start)
         & count_ok(f.spans as usize)
         & count_ok(f.nested_count)
         & count_ok(f.point_count)
@@ -120,9 +141,9 @@ fn slider_ok(f: Fields) -> bool
 fn kind_ok(f: Fields) -> bool
     ensures { λ r. ⌜ r ≡ kindOk f ⌝ }
 {
-    (f.kind == 0) & (f.end == f.start) & plain_ok(f)
-        | (f.kind == 1) & slider_ok(f)
-        | (f.kind == 2) & (f.start <= f.end) & plain_ok(f)
+    (f.kind == CIRCLE) & (f.end == f.start) & plain_ok(f)
+        | (f.kind == SLIDER) & slider_ok(f)
+        | (f.kind == SPINNER) & (f.start <= f.end) & plain_ok(f)
 }
 
 // Whether an object's own fields are right: condition 3 is that they are not.

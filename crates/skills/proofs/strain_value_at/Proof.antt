@@ -1,57 +1,68 @@
--- `skills::strain_value_at` meets its contract: a row is five numbers of the table. Assumes nothing.
+-- `skills::joined_strain` meets its contract: a row is five numbers of the table. Assumes nothing.
+use lib.Dec.{lit<}
 use Rattle.skills.proofs.Rows.{row-at}
-use Rattle.skills.specs.Strains.{column, strainNext}
 use lib.Ieee.{nan}
+use Rattle.skills.specs.Strains.{joined}
 use borrow.Author.Needs.{needs}
-use Rattle.skills.proofs.strain_value_at.Statement.{statement}
-use Rattle.skills.proofs.strain_value_at.Tie as tie
+use Rattle.skills.proofs.joined_strain.Statement.{statement}
+use Rattle.skills.proofs.joined_strain.Tie as tie
 
-elapsed-requires : tie.Need-elapsed-requires
-elapsed-requires c κs = search needs
+enum-told : tie.Need-enum-told
+enum-told c = search needs
 
-strain-decay-base-requires : tie.Need-strain-decay-base-requires
-strain-decay-base-requires c κs = search needs
+enum-told-2 : tie.Need-enum-told-2
+enum-told-2 c = search needs
 
-strain-decay-requires : tie.Need-strain-decay-requires
-strain-decay-requires c κs = search needs
-
-mul-at : tie.Need-mul-at
-mul-at c = search needs
-
-column-requires : tie.Need-column-requires
-column-requires c κs = search needs
-
-add-at : tie.Need-add-at
-add-at c = search needs
+enum-told-3 : tie.Need-enum-told-3
+enum-told-3 c = search needs
 
 mul-result : tie.Need-mul-result
 mul-result c = search needs
 
+add-result : tie.Need-add-result
+add-result c = search needs
+
+mul-result-2 : tie.Need-mul-result-2
+mul-result-2 c = search needs
+
 shared-slice-read-result : tie.Need-shared-slice-read-result
 shared-slice-read-result c = search needs
 
-skill-multiplier-requires : tie.Need-skill-multiplier-requires
-skill-multiplier-requires c κs = search needs
+enum-told-4 : tie.Need-enum-told-4
+enum-told-4 c = search needs
 
 returns : tie.Need-returns
-unfolding strainNext
-returns c =
-    let a = c .before .before .before .before .before .before .before .args in
-    let k = c .before .before .column .ensures in
-    let e = row-at 5 (a .j) (column (a .skill)) (a .values .now) nan (rw (k .0) at (k .1)) in
-    simp (e, c .skill-multiplier .ensures, k .0, c .before .before .before .strain-decay .ensures, c .before .before .before .before .strain-decay-base .ensures, c .before .before .before .before .before .elapsed .ensures)
+unfolding joined
+returns c = search needs
 
-pub strain-value-at-spec : {M : Type 1} → statement M
-strain-value-at-spec =
+returns-2 : tie.Need-returns-2
+unfolding joined
+returns-2 c = search needs
+
+returns-3 : tie.Need-returns-3
+unfolding joined
+returns-3 c =
+    let a = c .before .before .before .args in
+    let e = row-at 5 (a .j) 3 (a .values .now) nan (lit< tt) in
+    cc
+
+returns-4 : tie.Need-returns-4
+unfolding joined
+returns-4 c = search needs
+
+pub joined-strain-spec : {M : Type 1} → statement M
+joined-strain-spec =
     tie.close
     (tie.spec
-    elapsed-requires
-    strain-decay-base-requires
-    strain-decay-requires
-    mul-at
-    column-requires
-    add-at
+    enum-told
+    enum-told-2
+    enum-told-3
     mul-result
+    add-result
+    mul-result-2
     shared-slice-read-result
-    skill-multiplier-requires
-    returns)
+    enum-told-4
+    returns
+    returns-2
+    returns-3
+    returns-4)
