@@ -24,6 +24,7 @@ use Rattle.object.specs.declared.Placed.{Placed}
 use Rattle.object.specs.declared.Travel.{Travel}
 use Rattle.object.specs.declared.Jump.{Jump}
 use Rattle.object.specs.declared.Turn.{Turn}
+use Rattle.object.specs.declared.Distances.{Distances}
 use Rattle.object.specs.declared.OsuDifficultyObject.{OsuDifficultyObject}
 
 -- ---- what records take from one object
@@ -126,6 +127,14 @@ turnOf j o last before =
     cond (ltb 2 j && not (isSpinner (o .base .kind)) && not (isSpinner (last .base .kind)) && not (isSpinner (before .base .kind)))
     (record { «has_angle» = true; angle = angleTo (o .base) (stackedPos (last .base)) (lastCursor j last) (endCursor before) })
     (record { «has_angle» = false; angle = zero64 })
+
+-- `set_distances`
+abbrev pub distancesOf : Settings → ℕ → Float → Placed → Placed → Placed → Distances
+distancesOf set j adjusted o last before = record {
+  travel = travelOf o (set .«clock_rate»);
+  jump = jumpOf set j adjusted o last;
+  turn = turnOf j o last before;
+}
 
 -- ---- the record: "Adjusted time is at least 25."
 

@@ -10,6 +10,7 @@ use osu_object::OsuObject;
 use osu_object::Runs;
 use pos::Pos;
 
+// A slider is tracked until this long before its end, in milliseconds.
 const TAIL_LENIENCY: f64 = -36.0;
 
 // The place from which the order of entries is turned, the number of entries if it stays, and the tracking end time.
@@ -18,6 +19,7 @@ pub struct Tracking {
     pub end_time: f64,
 }
 
+// The walk over the entries: where the cursor is, the lazy end, and how far it travelled.
 pub struct CursorState {
     pub cursor: Pos,
     pub lazy_end: Pos,
@@ -32,12 +34,13 @@ pub struct Cursor {
     pub lazy_travel_time: f64,
 }
 
+// Whether nested entry k is a tick.
 fn is_tick(chart: &[u8], lay: Layout, r: Runs, k: usize) -> bool
     requires { ⌜ Slides (now chart) lay r × (k < r .«nested_count») ⌝ }
     ensures { λ b. ⌜ b ≡ isTick (nestedList (now (chart .entry)) lay r) k ⌝ }
 {
     let e = osu_object::nested(chart, lay, r, k);
-    e.kind == 0
+    e.kind == entries::TICK
 }
 
 // The last tick's place plus 1, or 0 without ticks.
@@ -55,12 +58,14 @@ fn last_tick(chart: &[u8], lay: Layout, r: Runs) -> usize
     k
 }
 
+// When tracking ends: 36 ms before the end, or half way where that is later.
 fn tracking_end(start: f64, duration: f64) -> f64
     ensures { λ t. ⌜ t ≡ trackingEnd start duration ⌝ }
 {
     floats::max(start + duration + TAIL_LENIENCY, start + duration / 2.0)
 }
 
+// The last tick is taken last and ends the tracking where it starts after t, the end by the slider's times.
 fn tracking_of(chart: &[u8], lay: Layout, r: Runs, t: f64) -> Tracking
     requires { ⌜ Slides (now chart) lay r ⌝ }
     ensures { λ a. ⌜ (a ≡ trackingOf (nestedList (now (chart .entry)) lay r) t) × (a .moved ≤ r .«nested_count») ⌝ }
@@ -99,6 +104,7 @@ fn order(moved: usize, count: usize, k: usize) -> usize
     moved
 }
 
+// A time counted in spans as progress on the path: odd spans run backwards.
 fn folded(end_time_min: f64) -> f64
     ensures { λ r. ⌜ r ≡ foldedOf «end_time_min» ⌝ }
 {
@@ -108,19 +114,21 @@ fn folded(end_time_min: f64) -> f64
     whole::rem_one(end_time_min)
 }
 
+// How far the cursor may stay behind an entry: a repeat that is not the last needs the closer one.
 fn required_movement(kind: u32, last: bool) -> f64
     ensures { λ r. ⌜ r ≡ requiredOf kind last ⌝ }
 {
     if last {
         return floats::widen(OsuDifficultyObject::ASSUMED_SLIDER_RADIUS);
     }
-    if kind == 1 {
+    if kind == entries::REPEAT {
         return OsuDifficultyObject::NORMALIZED_RADIUS as f64;
     }
     floats::widen(OsuDifficultyObject::ASSUMED_SLIDER_RADIUS)
 }
 
 impl CursorState {
+    // From the cursor to entry e; at the last entry to the lazy end where that is closer.
     fn movement(self, e: Nested, stack_offset: Pos, last: bool) -> Pos
         ensures { λ r. ⌜ r ≡ movementOf self e «stack_offset» last ⌝ }
     {
@@ -137,6 +145,7 @@ impl CursorState {
         movement
     }
 
+    // The cursor after a movement, by as much as is required.
     fn advanced(self, movement: Pos, movement_len: f64, required: f64) -> CursorState
         ensures { λ r. ⌜ r ≡ advancedOf self movement «movement_len» required ⌝ }
     {
@@ -154,6 +163,7 @@ impl CursorState {
         self
     }
 
+    // The cursor after entry e; after the last one it is the lazy end.
     fn step(self, e: Nested, stack_offset: Pos, scaling_factor: f64, last: bool) -> CursorState
         ensures { λ r. ⌜ r ≡ stepOf self e «stack_offset» «scaling_factor» last ⌝ }
     {
@@ -210,6 +220,7 @@ fn start_state(chart: &[u8], lay: Layout, r: Runs, head: Pos, progress: f64) -> 
     }
 }
 
+// What the record takes from the slider o with this end and these spans.
 pub fn compute_slider_cursor_pos(
     chart: &[u8],
     lay: Layout,

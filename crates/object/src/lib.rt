@@ -2,7 +2,7 @@
 ghost use mathlib.Core.Path.{_≡_};
 ghost use Prim.Native.Nat.{_<_};
 ghost use Rattle.osu_object.specs.Osu.{Ready, objectOf};
-ghost use Rattle.object.specs.Record.{plainOf, placedOf, travelOf, endCursor, lastCursor, jumpDist, minJumpTime, minJumpDist, sliderJump, jumpOf, turnOf, angleTo, newRecord};
+ghost use Rattle.object.specs.Record.{plainOf, placedOf, travelOf, endCursor, lastCursor, jumpDist, minJumpTime, minJumpDist, sliderJump, jumpOf, turnOf, angleTo, distancesOf, newRecord};
 ghost use Rattle.object.specs.Reading.{windowOf, tapnessOf, doubletapness, fadeIn, fadeOut, opacityAt};
 use cursor::Cursor;
 use objects::Layout;
@@ -41,6 +41,14 @@ pub struct Turn {
     pub angle: f64,
 }
 
+// What `set_distances` works out for a record.
+pub struct Distances {
+    pub travel: Travel,
+    pub jump: Jump,
+    pub turn: Turn,
+}
+
+// The record of a place, times and distances by clock rate and radius; 0 where there is no value.
 pub struct OsuDifficultyObject {
     pub start_time: f64,
     pub delta_time: f64,
@@ -82,9 +90,10 @@ impl OsuDifficultyObject {
         let lazy_end = cursor.lazy_end;
         let delta_time = (base.start_time - last_base.start_time) / set.clock_rate;
         let adjusted = floats::max(delta_time, Self::MIN_DELTA_TIME);
-        let travel = travel_of(o, set.clock_rate);
-        let jump = jump_of(set, j, adjusted, o, last);
-        let turn = turn_of(j, o, last, last_last);
+        let distances = set_distances(set, j, adjusted, o, last, last_last);
+        let travel = distances.travel;
+        let jump = distances.jump;
+        let turn = distances.turn;
         Self {
             start_time: base.start_time / set.clock_rate,
             delta_time: delta_time,
@@ -99,7 +108,10 @@ impl OsuDifficultyObject {
             lazy_travel_dist: cursor.lazy_travel_dist,
             lazy_travel_time: cursor.lazy_travel_time,
             angle: turn.angle,
-            small_circle_bonus: floats::max(1.0 + (30.0 - set.radius) / 40.0, 1.0),
+            small_circle_bonus: floats::max(
+                1.0 + (SMALL_RADIUS - set.radius) / SMALL_RADIUS_SCALE,
+                1.0,
+            ),
             has_lazy_end: cursor.has_lazy_end,
             has_angle: turn.has_angle,
         }
@@ -126,12 +138,14 @@ impl OsuDifficultyObject {
     }
 }
 
+// The hit window of an object: a spinner has none.
 pub fn window_of(is_spinner: bool, hit_window: f64) -> f64
     ensures { λ r. ⌜ r ≡ windowOf «is_spinner» «hit_window» ⌝ }
 {
     if is_spinner { 0.0 } else { hit_window }
 }
 
+// `get_doubletapness` of two delta times and the object's hit window.
 pub fn tapness(delta_time: f64, next_delta: f64, hit_window: f64) -> f64
     ensures { λ r. ⌜ r ≡ tapnessOf «delta_time» «next_delta» «hit_window» ⌝ }
 {
@@ -145,6 +159,15 @@ pub fn tapness(delta_time: f64, next_delta: f64, hit_window: f64) -> f64
 
 const HD_FADE_OUT_DURATION_MULTIPLIER: f64 = 0.3;
 
+// The small circle bonus begins at this radius, and as much less as the scale would double it.
+const SMALL_RADIUS: f64 = 30.0;
+
+const SMALL_RADIUS_SCALE: f64 = 40.0;
+
+// So many repeats double what a slider's travel distance is raised from.
+const REPEAT_SCALE: f64 = 2.5;
+
+// How much of an object is shown at a time before its start, not hidden.
 fn fade_in(start_time: f64, time: f64, time_preempt: f64, time_fade_in: f64) -> f64
     ensures { λ r. ⌜ r ≡ fadeIn «start_time» time «time_preempt» «time_fade_in» ⌝ }
 {
@@ -152,6 +175,7 @@ fn fade_in(start_time: f64, time: f64, time_preempt: f64, time_fade_in: f64) -> 
     floats::clamp((time - fade_in_start_time) / time_fade_in, 0.0, 1.0)
 }
 
+// How much of a hidden object has gone again.
 fn fade_out(start_time: f64, time: f64, time_preempt: f64, time_fade_in: f64) -> f64
     ensures { λ r. ⌜ r ≡ fadeOut «start_time» time «time_preempt» «time_fade_in» ⌝ }
 {
@@ -225,6 +249,7 @@ pub fn placed_at(chart: &[u8], lay: Layout, i: usize, radius: f64) -> Placed
     }
 }
 
+// Travel distance and time, 0 but for a slider.
 fn travel_of(o: Placed, clock_rate: f64) -> Travel
     ensures { λ r. ⌜ r ≡ travelOf o «clock_rate» ⌝ }
 {
@@ -233,7 +258,7 @@ fn travel_of(o: Placed, clock_rate: f64) -> Travel
     if base.is_slider() {
         return Travel {
             dist: cursor.lazy_travel_dist
-                * elementary::power(1.0 + o.repeats as f64 / 2.5, 1.0 / 2.5),
+                * elementary::power(1.0 + o.repeats as f64 / REPEAT_SCALE, 1.0 / REPEAT_SCALE),
             time: floats::max(
                 cursor.lazy_travel_time / clock_rate,
                 OsuDifficultyObject::MIN_DELTA_TIME,
@@ -269,6 +294,7 @@ fn last_cursor_pos(j: usize, last: Placed) -> Pos
     get_end_cursor_pos(last)
 }
 
+// How far the jump to an object is, in normalized radii.
 fn jump_dist(base: OsuObject, last_cursor: Pos, factor: f32) -> f64
     ensures { λ r. ⌜ r ≡ jumpDist base «last_cursor» factor ⌝ }
 {
@@ -277,6 +303,7 @@ fn jump_dist(base: OsuObject, last_cursor: Pos, factor: f32) -> f64
     floats::widen(to.sub(from).length())
 }
 
+// The time that is left for a jump after the slider before.
 fn min_jump_time(adjusted: f64, lazy_travel_time: f64, clock_rate: f64) -> f64
     ensures { λ r. ⌜ r ≡ minJumpTime adjusted «lazy_travel_time» «clock_rate» ⌝ }
 {
@@ -290,6 +317,7 @@ fn min_jump_time(adjusted: f64, lazy_travel_time: f64, clock_rate: f64) -> f64
     )
 }
 
+// The jump that is left after the slider before, from its lazy end or from its tail.
 fn min_jump_dist(base: OsuObject, stacked_tail: Pos, factor: f32, lazy_dist: f64) -> f64
     ensures { λ r. ⌜ r ≡ minJumpDist base «stacked_tail» factor «lazy_dist» ⌝ }
 {
@@ -301,7 +329,7 @@ fn min_jump_dist(base: OsuObject, stacked_tail: Pos, factor: f32, lazy_dist: f64
     floats::max(floats::min(lazy_dist - diff, min), 0.0)
 }
 
-// From a slider.
+// The jump from a slider.
 fn slider_jump(set: Settings, adjusted: f64, base: OsuObject, last: Placed, lazy_dist: f64) -> Jump
     ensures { λ r. ⌜ r ≡ sliderJump set adjusted base last «lazy_dist» ⌝ }
 {
@@ -317,6 +345,7 @@ fn slider_jump(set: Settings, adjusted: f64, base: OsuObject, last: Placed, lazy
     }
 }
 
+// The jump from the object before.
 fn jump_of(set: Settings, j: usize, adjusted: f64, o: Placed, last: Placed) -> Jump
     ensures { λ r. ⌜ r ≡ jumpOf set j adjusted o last ⌝ }
 {
@@ -340,6 +369,7 @@ fn jump_of(set: Settings, j: usize, adjusted: f64, o: Placed, last: Placed) -> J
     }
 }
 
+// The angle at the last object between the way to it and the way to this one.
 fn angle_to(base: OsuObject, last_pos: Pos, last_cursor: Pos, last_last_cursor: Pos) -> f64
     ensures { λ r. ⌜ r ≡ angleTo base «last_pos» «last_cursor» «last_last_cursor» ⌝ }
 {
@@ -348,6 +378,7 @@ fn angle_to(base: OsuObject, last_pos: Pos, last_cursor: Pos, last_last_cursor: 
     angle::angle(floats::widen(v1.dot(v2)), floats::widen(v1.det(v2)))
 }
 
+// The angle, from place 3 on and where none of the three objects is a spinner.
 fn turn_of(j: usize, o: Placed, last: Placed, last_last: Placed) -> Turn
     ensures { λ r. ⌜ r ≡ turnOf j o last «last_last» ⌝ }
 {
@@ -368,5 +399,23 @@ fn turn_of(j: usize, o: Placed, last: Placed, last_last: Placed) -> Turn
     Turn {
         has_angle: false,
         angle: 0.0,
+    }
+}
+
+// The Rust's `set_distances`: travel, jump and angle of the record of place j.
+fn set_distances(
+    set: Settings,
+    j: usize,
+    adjusted: f64,
+    o: Placed,
+    last: Placed,
+    last_last: Placed,
+) -> Distances
+    ensures { λ r. ⌜ r ≡ distancesOf set j adjusted o last «last_last» ⌝ }
+{
+    Distances {
+        travel: travel_of(o, set.clock_rate),
+        jump: jump_of(set, j, adjusted, o, last),
+        turn: turn_of(j, o, last, last_last),
     }
 }

@@ -21,6 +21,7 @@ pub enum OsuObjectKind {
     Slider(f64, f64),
 }
 
+// An object without its entries.
 pub struct OsuObject {
     pub pos: Pos,
     pub start_time: f64,
@@ -36,19 +37,21 @@ pub struct Runs {
     pub point_count: usize,
 }
 
+// The kind that a chart's number stands for; no object that opens has a fourth.
 fn kind_of(f: Fields) -> OsuObjectKind
     ensures { λ r. ⌜ r ≡ kindOf f ⌝ }
 {
-    if f.kind == 0 {
+    if f.kind == objects::CIRCLE {
         return OsuObjectKind::Circle;
     }
-    if f.kind == 1 {
+    if f.kind == objects::SLIDER {
         return OsuObjectKind::Slider(f.end, f.spans as f64);
     }
     OsuObjectKind::Spinner
 }
 
 impl Runs {
+    // From the fields of the slider.
     pub fn new(f: Fields) -> Runs
         ensures { λ r. ⌜ r ≡ runsOf f ⌝ }
     {
@@ -62,6 +65,7 @@ impl Runs {
 }
 
 impl OsuObject {
+    // From the fields of the object.
     pub fn new(f: Fields) -> OsuObject
         ensures { λ r. ⌜ r ≡ osuObject f ⌝ }
     {
@@ -77,6 +81,7 @@ impl OsuObject {
         }
     }
 
+    // The position, moved by the stack offset.
     pub fn stacked_pos(self) -> Pos
         ensures { λ r. ⌜ r ≡ stackedPos self ⌝ }
     {
@@ -85,6 +90,7 @@ impl OsuObject {
         pos.add(stack_offset)
     }
 
+    // Whether it is a slider.
     pub fn is_slider(self) -> bool
         ensures { λ r. ⌜ r ≡ isSlider (self .kind) ⌝ }
     {
@@ -96,6 +102,7 @@ impl OsuObject {
         }
     }
 
+    // Whether it is a spinner.
     pub fn is_spinner(self) -> bool
         ensures { λ r. ⌜ r ≡ isSpinner (self .kind) ⌝ }
     {
@@ -120,6 +127,7 @@ impl OsuObject {
         }
     }
 
+    // The position where the object ends, moved by the stack offset.
     pub fn stacked_end_pos(self, chart: &[u8], lay: Layout, r: Runs) -> Pos
         requires { ⌜ (isSlider (self .kind) ≡ true → Slides (now chart) lay r) ⌝ }
         ensures { λ p. ⌜ p ≡ stackedEndPos self (nestedList (now (chart .entry)) lay r) ⌝ }
@@ -155,12 +163,13 @@ pub fn tail(chart: &[u8], lay: Layout, r: Runs) -> Pos
     Pos { x: e.x, y: e.y }
 }
 
+// Whether nested entry k is a repeat.
 fn is_repeat(chart: &[u8], lay: Layout, r: Runs, k: usize) -> bool
     requires { ⌜ Slides (now chart) lay r × (k < r .«nested_count») ⌝ }
     ensures { λ b. ⌜ b ≡ isRepeat (nestedList (now (chart .entry)) lay r) k ⌝ }
 {
     let e = nested(chart, lay, r, k);
-    e.kind == 1
+    e.kind == entries::REPEAT
 }
 
 // How many nested entries are repeats.
@@ -179,6 +188,7 @@ pub fn repeat_count(chart: &[u8], lay: Layout, r: Runs) -> u32
     n
 }
 
+// Whether the path is at least d long at point k.
 fn reached(chart: &[u8], lay: Layout, r: Runs, d: f64, k: usize) -> bool
     requires { ⌜ Slides (now chart) lay r × (k < r .«point_count») ⌝ }
     ensures { λ b. ⌜ b ≡ reaches (pointList (now (chart .entry)) lay r) d k ⌝ }

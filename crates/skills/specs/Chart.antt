@@ -9,12 +9,16 @@ use Rattle.objects.specs.declared.Layout.{Layout}
 use Rattle.tables.specs.Parts.{row}
 use Rattle.skills.specs.declared.Skill.{Skill}
 use Rattle.skills.specs.declared.Skills.{Skills}
-use Rattle.skills.specs.Strains.{peaksTo, strainAt, totalTo, total}
+use Rattle.skills.specs.Strains.{room, peaksTo, strainAt, totalTo, total}
 
 -- the chart holds what the layout says, and the table has a row for each place
 pub record Readable (s : List ℕ) (lay : Layout) (values : List Float) : Type 0 where
   pub holds : Holds s lay
   pub rows : 5 * lay .n ≤ length values
+
+-- scratch for the peaks of all sections: those that are closed before the last, and the last
+abbrev pub Roomy : List Float → Type 0
+Roomy scratch = suc room ≤ length scratch
 
 module _ (s : List ℕ) (lay : Layout) (clock : Float) where
   -- object.rs, start_time; 0 at place 0, which has no record

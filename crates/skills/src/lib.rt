@@ -6,8 +6,8 @@ ghost use Rattle.floats.specs.Numbers.{zero64};
 ghost use Rattle.objects.specs.Objects.{Holds, fieldsOf};
 ghost use Rattle.tables.specs.Parts.{row, fill};
 ghost use Rattle.skills.specs.Strains as strains;
-ghost use Rattle.skills.specs.Chart.{Readable, strainRow, peaksOf, totalOf, totalsOf};
-ghost use Rattle.skills.specs.Shown.{shown, opened, joined};
+ghost use Rattle.skills.specs.Chart.{Readable, Roomy, strainRow, peaksOf, totalOf, totalsOf};
+ghost use Rattle.skills.specs.Shown.{shown, opened, closed, joined};
 
 mod aim;
 mod flashlight;
@@ -16,6 +16,7 @@ mod strain;
 
 use objects::Layout;
 
+// The four skills.
 pub enum Skill {
     Aim,
     AimNoSliders,
@@ -38,11 +39,23 @@ struct Sections {
     end: f64,
 }
 
+// The length of a section, in milliseconds.
 const SECTION_LENGTH: f64 = 400.0;
 
 // Sections that are closed before the last, at most; a chart that opens stays below it.
 const ROOM: usize = 8191;
 
+// The least adjusted delta time, as in the record.
+const MIN_DELTA_TIME: f64 = 25.0;
+
+const MS_PER_SECOND: f64 = 1000.0;
+
+// The values of a place, and which of them is the rhythm.
+const VALUES: usize = 5;
+
+const RHYTHM: usize = 3;
+
+// The base to which a skill's strain decays in a second.
 fn strain_decay_base(skill: Skill) -> f64
     ensures { λ r. ⌜ r ≡ strains.base skill ⌝ }
 {
@@ -54,6 +67,7 @@ fn strain_decay_base(skill: Skill) -> f64
     }
 }
 
+// What a skill multiplies its value by.
 fn skill_multiplier(skill: Skill) -> f64
     ensures { λ r. ⌜ r ≡ strains.multiplier skill ⌝ }
 {
@@ -84,43 +98,43 @@ fn elapsed(skill: Skill, delta: f64) -> f64
     match skill {
         Skill::Aim => delta,
         Skill::AimNoSliders => delta,
-        Skill::Speed => floats::max(delta, 25.0),
+        Skill::Speed => floats::max(delta, MIN_DELTA_TIME),
         Skill::Flashlight => delta,
     }
 }
 
-// any/difficulty/skills.rs
+// What is left of 1 after some milliseconds (any/difficulty/skills.rs).
 fn strain_decay(ms: f64, base: f64) -> f64
     ensures { λ r. ⌜ r ≡ strains.strainDecay ms base ⌝ }
 {
-    elementary::power(base, ms / 1000.0)
+    elementary::power(base, ms / MS_PER_SECOND)
 }
 
-// The decaying strain at place j, after `current` at the place before.
-fn strain_value_at(values: &[f64], j: usize, skill: Skill, current: f64, delta: f64) -> f64
+// The Rust's `current_strain` at place j, after `current` at the place before.
+fn current_strain(values: &[f64], j: usize, skill: Skill, current: f64, delta: f64) -> f64
     requires { ⌜ 5 * j + 5 ≤ length (now values) ⌝ }
     ensures { λ r. ⌜ r ≡ strains.strainNext skill current delta (row 5 (now (values .entry)) j) ⌝ }
 {
     let decay = strain_decay(elapsed(skill, delta), strain_decay_base(skill));
-    let at = 5 * j + column(skill);
+    let at = VALUES * j + column(skill);
     current * decay + values[at] * skill_multiplier(skill)
 }
 
-// The strain that joins at place j: speed's decaying strain times the rhythm, the others' alone.
-fn joined_strain(values: &[f64], j: usize, skill: Skill, current: f64) -> f64
+// The strain at place j, of its decaying strain: speed's times the rhythm, the others' alone.
+fn strain_value_at(values: &[f64], j: usize, skill: Skill, current: f64) -> f64
     requires { ⌜ 5 * j + 5 ≤ length (now values) ⌝ }
     ensures { λ r. ⌜ r ≡ strains.joined skill current (row 5 (now (values .entry)) j) ⌝ }
 {
     match skill {
         Skill::Aim => current,
         Skill::AimNoSliders => current,
-        Skill::Speed => current * values[5 * j + 3],
+        Skill::Speed => current * values[VALUES * j + RHYTHM],
         Skill::Flashlight => current,
     }
 }
 
 // The strain with which a section starts at `time`, after a place with this start and this strain.
-fn initial_strain(skill: Skill, strain: f64, start: f64, time: f64) -> f64
+fn calculate_initial_strain(skill: Skill, strain: f64, start: f64, time: f64) -> f64
     ensures { λ r. ⌜ r ≡ strains.initialStrain skill strain start time ⌝ }
 {
     strain * strain_decay(time - start, strain_decay_base(skill))
@@ -135,8 +149,8 @@ fn close_sections(
     last: f64,
     start: f64,
 ) -> Sections
-    requires { ⌜ (from .count ≤ strains.room) × (8192 ≤ length (now peaks)) ⌝ }
-    ensures { λ r. ⌜ (r .count ≤ strains.room) × (shown (now (peaks .exit)) r ≡ strains.closeTo (strains.room - from .count) (strains.initialStrain skill strain last) start (shown (now (peaks .entry)) from)) ⌝ }
+    requires { ⌜ (from .count ≤ strains.room) × (Roomy (now peaks)) ⌝ }
+    ensures { λ r. ⌜ (r .count ≤ strains.room) × (shown (now (peaks .exit)) r ≡ closed (now (peaks .entry)) from skill strain last start) ⌝ }
 {
     let mut count = from.count;
     let mut peak = from.peak;
@@ -144,7 +158,7 @@ fn close_sections(
     while count < ROOM {
         if end < start {
             peaks[count] = peak;
-            peak = initial_strain(skill, strain, last, end);
+            peak = calculate_initial_strain(skill, strain, last, end);
             end = end + SECTION_LENGTH;
             count += 1;
         } else {
@@ -194,8 +208,8 @@ fn walk(
     skill: Skill,
     peaks: &mut [f64],
 ) -> usize
-    requires { ⌜ (Readable (now chart) lay (now values)) × (2 ≤ lay .n) × (8192 ≤ length (now peaks)) ⌝ }
-    ensures { λ r. ⌜ (r ≤ 8192) × (take r (now (peaks .exit)) ≡ peaksOf (now (chart .entry)) lay clock (now (values .entry)) skill) ⌝ }
+    requires { ⌜ (Readable (now chart) lay (now values)) × (2 ≤ lay .n) × (Roomy (now peaks)) ⌝ }
+    ensures { λ r. ⌜ (r ≤ strains.room + 1) × (take r (now (peaks .exit)) ≡ peaksOf (now (chart .entry)) lay clock (now (values .entry)) skill) ⌝ }
 {
     let n = lay.n;
     let mut sections = open_first(raw_start(chart, lay, 1) / clock);
@@ -208,8 +222,8 @@ fn walk(
         let raw = raw_start(chart, lay, j);
         let start = raw / clock;
         let closed = close_sections(peaks, sections, skill, joined, last, start);
-        current = strain_value_at(values, j, skill, current, (raw - raw_last) / clock);
-        joined = joined_strain(values, j, skill, current);
+        current = current_strain(values, j, skill, current, (raw - raw_last) / clock);
+        joined = strain_value_at(values, j, skill, current);
         sections = join(closed, joined);
         raw_last = raw;
         last = start;
@@ -241,8 +255,8 @@ pub fn strains_into(
     let mut j = 1;
     while j < n {
         let raw = raw_start(chart, lay, j);
-        current = strain_value_at(values, j, skill, current, (raw - raw_last) / clock);
-        out[j] = joined_strain(values, j, skill, current);
+        current = current_strain(values, j, skill, current, (raw - raw_last) / clock);
+        out[j] = strain_value_at(values, j, skill, current);
         raw_last = raw;
         j += 1;
     }
@@ -258,7 +272,7 @@ fn skill_total(
     peaks: &mut [f64],
     tmp: &mut [f64],
 ) -> f64
-    requires { ⌜ (Readable (now chart) lay (now values)) × (8192 ≤ length (now peaks)) × (8192 ≤ length (now tmp)) ⌝ }
+    requires { ⌜ (Readable (now chart) lay (now values)) × (Roomy (now peaks)) × (Roomy (now tmp)) ⌝ }
     ensures { λ r. ⌜ r ≡ totalOf (now (chart .entry)) lay clock (now (values .entry)) skill ⌝ }
 {
     if lay.n < 2 {
@@ -268,6 +282,7 @@ fn skill_total(
     strain::difficulty_of(skill, &mut peaks[0..count], tmp)
 }
 
+// All numbers become 0.
 fn clear(a: &mut [f64])
     ensures { λ _. ⌜ now (a .exit) ≡ replicate (length (now (a .entry))) zero64 ⌝ }
 {
@@ -284,30 +299,46 @@ pub fn totals(
     lay: Layout,
     clock: f64,
     values: &[f64],
-    a: &mut [f64],
-    b: &mut [f64],
-    c: &mut [f64],
-    d: &mut [f64],
+    aim: &mut [f64],
+    aim_no_sliders: &mut [f64],
+    speed: &mut [f64],
+    flashlight: &mut [f64],
 ) -> Skills
-    requires { ⌜ (Readable (now chart) lay (now values)) × (8192 ≤ length (now a)) × (8192 ≤ length (now b)) × (8192 ≤ length (now c)) × (8192 ≤ length (now d)) ⌝ }
+    requires { ⌜ (Readable (now chart) lay (now values)) × (Roomy (now aim)) × (Roomy (now «aim_no_sliders»)) × (Roomy (now speed)) × (Roomy (now flashlight)) ⌝ }
     ensures result { λ r. ⌜ r ≡ totalsOf (now (chart .entry)) lay clock (now (values .entry)) ⌝ }
-    ensures first { λ _. ⌜ now (a .exit) ≡ replicate (length (now (a .entry))) zero64 ⌝ }
-    ensures second { λ _. ⌜ now (b .exit) ≡ replicate (length (now (b .entry))) zero64 ⌝ }
-    ensures third { λ _. ⌜ now (c .exit) ≡ replicate (length (now (c .entry))) zero64 ⌝ }
-    ensures fourth { λ _. ⌜ now (d .exit) ≡ replicate (length (now (d .entry))) zero64 ⌝ }
+    ensures first { λ _. ⌜ now (aim .exit) ≡ replicate (length (now (aim .entry))) zero64 ⌝ }
+    ensures second { λ _. ⌜ now («aim_no_sliders» .exit) ≡ replicate (length (now («aim_no_sliders» .entry))) zero64 ⌝ }
+    ensures third { λ _. ⌜ now (speed .exit) ≡ replicate (length (now (speed .entry))) zero64 ⌝ }
+    ensures fourth { λ _. ⌜ now (flashlight .exit) ≡ replicate (length (now (flashlight .entry))) zero64 ⌝ }
 {
-    let aim = skill_total(chart, lay, clock, values, Skill::Aim, a, b);
-    let aim_no_sliders = skill_total(chart, lay, clock, values, Skill::AimNoSliders, b, a);
-    let speed = skill_total(chart, lay, clock, values, Skill::Speed, c, d);
-    let flashlight = skill_total(chart, lay, clock, values, Skill::Flashlight, d, c);
-    clear(a);
-    clear(b);
-    clear(c);
-    clear(d);
-    Skills {
-        aim,
+    let total = skill_total(chart, lay, clock, values, Skill::Aim, aim, aim_no_sliders);
+    let without = skill_total(
+        chart,
+        lay,
+        clock,
+        values,
+        Skill::AimNoSliders,
         aim_no_sliders,
-        speed,
+        aim,
+    );
+    let speed_total = skill_total(chart, lay, clock, values, Skill::Speed, speed, flashlight);
+    let light_total = skill_total(
+        chart,
+        lay,
+        clock,
+        values,
+        Skill::Flashlight,
         flashlight,
+        speed,
+    );
+    clear(aim);
+    clear(aim_no_sliders);
+    clear(speed);
+    clear(flashlight);
+    Skills {
+        aim: total,
+        aim_no_sliders: without,
+        speed: speed_total,
+        flashlight: light_total,
     }
 }

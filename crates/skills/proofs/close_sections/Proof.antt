@@ -23,8 +23,8 @@ mul-peaks c = search needs
 slice-write-peaks : tie.Need-slice-write-peaks Inv-loop μ-loop
 slice-write-peaks c = search needs
 
-initial-strain-requires : tie.Need-initial-strain-requires Inv-loop μ-loop
-initial-strain-requires c κs = search needs
+calculate-initial-strain-requires : tie.Need-calculate-initial-strain-requires Inv-loop μ-loop
+calculate-initial-strain-requires c κs = search needs
 
 add-count : tie.Need-add-count Inv-loop μ-loop
 add-count c = search needs
@@ -33,7 +33,7 @@ loop-less : tie.Need-loop-less Inv-loop μ-loop
 loop-less c = search needs
 
 loop-again : tie.Need-loop-again Inv-loop μ-loop
-loop-again c = rw (c .initial-strain .ensures) (next (c .before .before .before .loop .inv) (search needs) (search needs) (c .before .if1 .taken))
+loop-again c = rw (c .calculate-initial-strain .ensures) (next (c .before .before .before .loop .inv) (search needs) (search needs) (c .before .if1 .taken))
 
 same-length : tie.Need-same-length Inv-loop μ-loop
 same-length c = search needs
@@ -56,7 +56,7 @@ close-sections-spec =
     loop-holds
     mul-peaks
     slice-write-peaks
-    initial-strain-requires
+    calculate-initial-strain-requires
     add-count
     loop-less
     loop-again

@@ -1,10 +1,10 @@
--- `skills::strain_value_at` meets its contract: a row is five numbers of the table. Assumes nothing.
+-- `skills::current_strain` meets its contract: a row is five numbers of the table. Assumes nothing.
 use Rattle.skills.proofs.Rows.{row-at}
 use Rattle.skills.specs.Strains.{column, strainNext}
 use lib.Ieee.{nan}
 use borrow.Author.Needs.{needs}
-use Rattle.skills.proofs.strain_value_at.Statement.{statement}
-use Rattle.skills.proofs.strain_value_at.Tie as tie
+use Rattle.skills.proofs.current_strain.Statement.{statement}
+use Rattle.skills.proofs.current_strain.Tie as tie
 
 elapsed-requires : tie.Need-elapsed-requires
 elapsed-requires c κs = search needs
@@ -41,8 +41,8 @@ returns c =
     let e = row-at 5 (a .j) (column (a .skill)) (a .values .now) nan (rw (k .0) at (k .1)) in
     simp (e, c .skill-multiplier .ensures, k .0, c .before .before .before .strain-decay .ensures, c .before .before .before .before .strain-decay-base .ensures, c .before .before .before .before .before .elapsed .ensures)
 
-pub strain-value-at-spec : {M : Type 1} → statement M
-strain-value-at-spec =
+pub current-strain-spec : {M : Type 1} → statement M
+current-strain-spec =
     tie.close
     (tie.spec
     elapsed-requires

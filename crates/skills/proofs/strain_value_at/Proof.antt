@@ -1,11 +1,11 @@
--- `skills::joined_strain` meets its contract: a row is five numbers of the table. Assumes nothing.
+-- `skills::strain_value_at` meets its contract: a row is five numbers of the table. Assumes nothing.
 use lib.Dec.{lit<}
 use Rattle.skills.proofs.Rows.{row-at}
 use lib.Ieee.{nan}
 use Rattle.skills.specs.Strains.{joined}
 use borrow.Author.Needs.{needs}
-use Rattle.skills.proofs.joined_strain.Statement.{statement}
-use Rattle.skills.proofs.joined_strain.Tie as tie
+use Rattle.skills.proofs.strain_value_at.Statement.{statement}
+use Rattle.skills.proofs.strain_value_at.Tie as tie
 
 enum-told : tie.Need-enum-told
 enum-told c = search needs
@@ -50,8 +50,8 @@ returns-4 : tie.Need-returns-4
 unfolding joined
 returns-4 c = search needs
 
-pub joined-strain-spec : {M : Type 1} → statement M
-joined-strain-spec =
+pub strain-value-at-spec : {M : Type 1} → statement M
+strain-value-at-spec =
     tie.close
     (tie.spec
     enum-told

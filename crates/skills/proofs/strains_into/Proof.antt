@@ -23,11 +23,11 @@ loop-holds c = let a = c .before .before .before .before .before .args in strain
 raw-start-requires-2 : tie.Need-raw-start-requires-2 Inv-loop μ-loop
 raw-start-requires-2 c κs = search needs
 
+current-strain-requires : tie.Need-current-strain-requires Inv-loop μ-loop
+current-strain-requires c κs = search needs
+
 strain-value-at-requires : tie.Need-strain-value-at-requires Inv-loop μ-loop
 strain-value-at-requires c κs = search needs
-
-joined-strain-requires : tie.Need-joined-strain-requires Inv-loop μ-loop
-joined-strain-requires c κs = search needs
 
 mul-out : tie.Need-mul-out Inv-loop μ-loop
 mul-out c = search needs
@@ -43,8 +43,8 @@ loop-less c = search needs
 
 loop-again : tie.Need-loop-again Inv-loop μ-loop
 loop-again c =
-    strained-next _ _ _ _ _ (c .before .before .before .before .loop .inv) (c .before .before .before .loop-test .taken) (search needs) (c .before .before .raw-start2 .result) (c .before .before .raw-start2 .ensures) (c .before .strain-value-at .result) (c .joined-strain .result)
-    (c .before .strain-value-at .ensures) (c .joined-strain .ensures)
+    strained-next _ _ _ _ _ (c .before .before .before .before .loop .inv) (c .before .before .before .loop-test .taken) (search needs) (c .before .before .raw-start2 .result) (c .before .before .raw-start2 .ensures) (c .before .current-strain .result) (c .strain-value-at .result)
+    (c .before .current-strain .ensures) (c .strain-value-at .ensures)
 
 same-length : tie.Need-same-length Inv-loop μ-loop
 same-length c = search needs
@@ -62,8 +62,8 @@ strains-into-spec =
     raw-start-requires
     loop-holds
     raw-start-requires-2
+    current-strain-requires
     strain-value-at-requires
-    joined-strain-requires
     mul-out
     slice-write-out
     add-j

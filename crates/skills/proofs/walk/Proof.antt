@@ -39,11 +39,11 @@ raw-start-requires-3 c κs = search needs
 close-sections-requires : tie.Need-close-sections-requires Inv-loop μ-loop
 close-sections-requires c κs = (c .before .before .before .loop .inv .within, omega (arith, c .before .before .before .loop .inv .kept, c .before .before .before .before .before .before .before .before .before .before .pre .2))
 
+current-strain-requires : tie.Need-current-strain-requires Inv-loop μ-loop
+current-strain-requires c κs = search needs
+
 strain-value-at-requires : tie.Need-strain-value-at-requires Inv-loop μ-loop
 strain-value-at-requires c κs = search needs
-
-joined-strain-requires : tie.Need-joined-strain-requires Inv-loop μ-loop
-joined-strain-requires c κs = search needs
 
 join-requires : tie.Need-join-requires Inv-loop μ-loop
 join-requires c κs = search needs
@@ -58,7 +58,7 @@ loop-again : tie.Need-loop-again Inv-loop μ-loop
 loop-again c =
     let cl = c .before .before .before .before .before .close-sections in
     walked-next _ _ _ _ _ (c .before .before .before .before .before .before .before .before .before .loop .inv) (c .before .before .before .before .before .before .before .before .before .before .before .before .before .before .before .before .pre .2) (c .before .before .before .before .before .before .before .before .loop-test .taken) (c .before .before .before .before .before .before .before .raw-start3 .result) (c .before .before .before .before .before .before .before .raw-start3 .ensures) (cl .last .0) (cl .result) (cl .kept .0) (cl .ensures .0) (cl .ensures .1)
-    (c .before .before .strain-value-at .result) (c .before .joined-strain .result) (c .join .result) (c .before .before .strain-value-at .ensures) (c .before .joined-strain .ensures) (c .join .ensures)
+    (c .before .before .current-strain .result) (c .before .strain-value-at .result) (c .join .result) (c .before .before .current-strain .ensures) (c .before .strain-value-at .ensures) (c .join .ensures)
 
 mul-peaks : tie.Need-mul-peaks Inv-loop μ-loop
 mul-peaks c = search needs
@@ -87,8 +87,8 @@ walk-spec =
     loop-holds
     raw-start-requires-3
     close-sections-requires
+    current-strain-requires
     strain-value-at-requires
-    joined-strain-requires
     join-requires
     add-j
     loop-less
