@@ -6,51 +6,61 @@ use objects::Layout;
 use opening::Settings;
 use opening::Verdict;
 
+// log10 of the rules.
 #[no_mangle]
 pub extern "C" fn rattle_log10(b: f64) -> f64 {
     elementary::log10(b)
 }
 
+// Two of the rules.
 #[no_mangle]
 pub extern "C" fn rattle_two(p: f64) -> f64 {
     elementary::two(p)
 }
 
+// Power of the rules.
 #[no_mangle]
 pub extern "C" fn rattle_power(b: f64, e: f64) -> f64 {
     elementary::power(b, e)
 }
 
+// exp of the rules.
 #[no_mangle]
 pub extern "C" fn rattle_exp(x: f64) -> f64 {
     elementary::exp(x)
 }
 
+// The root of an f64.
 #[no_mangle]
 pub extern "C" fn rattle_root64(x: f64) -> f64 {
     roots::root64(x)
 }
 
+// The root of an f32.
 #[no_mangle]
 pub extern "C" fn rattle_root32(x: f32) -> f32 {
     roots::root32(x)
 }
 
+// Angle of the rules.
 #[no_mangle]
 pub extern "C" fn rattle_angle(dot: f64, det: f64) -> f64 {
     angle::angle(dot, det)
 }
 
+// The nearest f32.
 #[no_mangle]
 pub extern "C" fn rattle_f64_to_f32(x: f64) -> f32 {
     whole::f64_to_f32(x)
 }
 
+// The whole part.
 #[no_mangle]
 pub extern "C" fn rattle_trunc(x: f64) -> f64 {
     whole::trunc(x)
 }
 
+// The whole part as an i32, held to its range.
 #[no_mangle]
 pub extern "C" fn rattle_to_i32(x: f64) -> i32 {
     whole::to_i32(x)

@@ -26,9 +26,13 @@ use Rattle.flashlight.specs.declared.FlashlightState.{FlashlightState}
 abbrev pub counted : ℕ → Float
 counted n = Ieee.ofInt binary64 (pos n)
 
--- `new` of skills/flashlight.rs; preempt and fade-in are the header's
+-- `FlashlightEvaluator::new`
+abbrev pub newEvaluator : Float → Float → Float → FlashlightEvaluator
+newEvaluator scaling preempt fadeIn = record { «scaling_factor» = scaling; «time_preempt» = preempt; «time_fade_in» = fadeIn }
+
+-- as skills/flashlight.rs makes it; preempt and fade-in are the header's
 unfoldable pub evaluatorOf : Settings → FlashlightEvaluator
-evaluatorOf set = record { «scaling_factor» = scaledRadius ⊘ set .radius; «time_preempt» = set .preempt; «time_fade_in» = set .«fade_in» }
+evaluatorOf set = newEvaluator (scaledRadius ⊘ set .radius) (set .preempt) (set .«fade_in»)
 
 -- ---- one turn of the loop
 

@@ -6,7 +6,7 @@ ghost use Rattle.osu_object.specs.Osu.{Ready, objectOf};
 ghost use Rattle.records.specs.Rows.{recordAt};
 ghost use Rattle.records.specs.Part.{Covers, partAt};
 ghost use Rattle.flashlight.specs.Constants.{history};
-ghost use Rattle.flashlight.specs.Flashlight.{evaluatorOf, opacityBonus, smallDistNerf, addedOf, repeatedOf, freshState, stepOf, turnsAtPlace};
+ghost use Rattle.flashlight.specs.Flashlight.{newEvaluator, evaluatorOf, opacityBonus, smallDistNerf, addedOf, repeatedOf, freshState, stepOf, turnsAtPlace};
 ghost use Rattle.flashlight.specs.Flashlight.{hiddenOf, sharedOf, sliderBonus, valueOf, flashlightAtPlace};
 use object::OsuDifficultyObject;
 use objects::Layout;
@@ -14,6 +14,12 @@ use opening::Settings;
 use pos::Pos;
 use records::Part;
 use records::Sight;
+
+// The flashlight's scaling factor is this over the radius.
+const SCALED_RADIUS: f64 = 52.0;
+
+// How many records the walk goes back over at most.
+const HISTORY: usize = 10;
 
 pub struct FlashlightEvaluator {
     pub scaling_factor: f64,
@@ -33,11 +39,7 @@ pub struct FlashlightState {
 pub fn evaluator_of(set: Settings) -> FlashlightEvaluator
     ensures { λ r. ⌜ r ≡ evaluatorOf set ⌝ }
 {
-    FlashlightEvaluator {
-        scaling_factor: 52.0 / set.radius,
-        time_preempt: set.preempt,
-        time_fade_in: set.fade_in,
-    }
+    FlashlightEvaluator::new(SCALED_RADIUS / set.radius, set.preempt, set.fade_in)
 }
 
 // An object that is seen within the flashlight counts less: the nearest one in time decides.
@@ -88,7 +90,7 @@ fn shared(bonus: f64, repeat_count: u32) -> f64
 fn turns(i: usize) -> usize
     ensures { λ r. ⌜ r ≡ min i history ⌝ }
 {
-    if i < 10 { i } else { 10 }
+    if i < HISTORY { i } else { HISTORY }
 }
 
 impl FlashlightState {
@@ -114,6 +116,17 @@ impl FlashlightEvaluator {
     const SLIDER_MULTIPLIER: f64 = 1.3;
 
     const MIN_ANGLE_MULTIPLIER: f64 = 0.2;
+
+    // An evaluator of a scaling factor, a preempt and a fade-in time.
+    pub fn new(scaling_factor: f64, time_preempt: f64, time_fade_in: f64) -> Self
+        ensures { λ r. ⌜ r ≡ newEvaluator «scaling_factor» «time_preempt» «time_fade_in» ⌝ }
+    {
+        Self {
+            scaling_factor,
+            time_preempt,
+            time_fade_in,
+        }
+    }
 
     // How visible the object that starts at `start` is at `time`.
     fn opacity_bonus(self, start: f64, time: f64, hidden: bool) -> f64

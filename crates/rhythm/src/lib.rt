@@ -13,6 +13,7 @@ use osu_object::OsuObject;
 use records::Part;
 use step::Cell;
 use step::RhythmState;
+use step::Trio;
 
 pub mod island;
 pub mod step;
@@ -107,13 +108,12 @@ fn run(
     while 0 < k {
         let curr = cell_at(t, part, chart, lay, j - k);
         let d = step::decay(here.start_time, curr.start_time, hist, k);
+        let cells = Trio { curr, prev, last };
         s = s.step(
             &mut deltas,
             &mut delta_counts,
             &mut counts,
-            curr,
-            prev,
-            last,
+            cells,
             d,
             window,
             eps,

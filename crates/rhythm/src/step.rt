@@ -32,6 +32,13 @@ pub struct Cell {
     pub spinner: bool,
 }
 
+// Three cells in a row: the turn's own and the two before it.
+pub struct Trio {
+    pub curr: Cell,
+    pub prev: Cell,
+    pub last: Cell,
+}
+
 // The delta times of three records in a row.
 pub struct Deltas {
     pub curr: f64,
@@ -280,17 +287,19 @@ impl RhythmState {
         deltas: &mut [i32; 32],
         delta_counts: &mut [i32; 32],
         counts: &mut [u32; 32],
-        curr: Cell,
-        prev: Cell,
-        last: Cell,
+        cells: Trio,
         decay: f64,
         window: f64,
         eps: f64,
     ) -> Self
         requires { ⌜ Good 31 eps (walkOf self eps (now deltas) (now «delta_counts») (now counts)) ⌝ }
         ensures { λ r. ⌜ walkOf r eps (now (deltas .exit)) (now («delta_counts» .exit)) (now (counts .exit))
-            ≡ stepOf (walkOf self eps (now (deltas .entry)) (now («delta_counts» .entry)) (now (counts .entry))) curr prev last decay window eps ⌝ }
+            ≡ stepOf (walkOf self eps (now (deltas .entry)) (now («delta_counts» .entry)) (now (counts .entry)))
+            (cells .curr) (cells .prev) (cells .last) decay window eps ⌝ }
     {
+        let curr = cells.curr;
+        let prev = cells.prev;
+        let last = cells.last;
         let d = Deltas {
             curr: floats::max(curr.delta_time, LEAST_DELTA),
             prev: floats::max(prev.delta_time, LEAST_DELTA),

@@ -15,7 +15,7 @@ max-requires-3 : tie.Need-max-requires-3
 max-requires-3 c κs = search needs
 
 step-by-requires : tie.Need-step-by-requires
-step-by-requires c κs = c .before .before .before .before .before .before .pre
+step-by-requires c κs = c .before .before .before .before .before .before .before .before .before .pre
 
 returns : tie.Need-returns
 unfolding stepOf
