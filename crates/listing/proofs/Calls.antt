@@ -1,9 +1,8 @@
 -- What the calls of crate editor answer on a chart within the limit: opening as conditions 1 to 6 say, readings and totals what the filled table holds.
 -- Assumes nothing.
-use Prim.Native.Nat.{ℕ, _+_, _*_, _≤_, _<_}
+use Prim.Native.Nat.{ℕ, _*_, _≤_, _<_}
 use native.Mathlib.Omega.{arith}
 use mathlib.Core.Path.{_≡_, refl, sym, ap, _∙_, subst}
-use mathlib.Core.Bool.{false}
 use mathlib.Core.List.{List, [], _∷_, _++_}
 use mathlib.Core.Option.{Option, none, some}
 use borrow.Author.Tests.{lt-ltb, le-ltb}
@@ -19,7 +18,7 @@ use Rattle.evaluators.specs.declared.Values.{Values}
 use Rattle.evaluators.specs.Values.{rowOf}
 use Rattle.skills.specs.declared.Skills.{Skills}
 use Rattle.calls.specs.Conditions.{Met, firstOf, met, short, chartConditions, opening, refusal, readValue}
-use Rattle.calls.specs.Calls.{Answer, refused, replaced, recordIs, valueIs, totalsAre, Scratch, totalsWith, unless, refuse, execute, outcome, totalsOutcome, opened, openOutcome, openRecords, openValues, totalsFrom}
+use Rattle.calls.specs.Calls.{refused, valueIs, totalsAre, Scratch, totalsWith, unless, refuse, execute, outcome, totalsOutcome, opened, openOutcome, openRecords, openValues, totalsFrom}
 use Rattle.calls.specs.Statement.{Fresh}
 use Rattle.calls.specs.Verdicts.{metBy}
 use Rattle.calls.proofs.Refusals.{no-some, c1-met, opening-none, totals-accepted}

@@ -3,7 +3,7 @@ use Prim.Native.Nat.{ℕ, zero, suc, _+_, _-_, _*_, _≤_, _<_}
 use native.Mathlib.Omega.{arith}
 use mathlib.Core.Path.{_≡_, refl, sym, ap, _∙_}
 use mathlib.Core.Bool.{Bool, true, false, cond}
-use mathlib.Core.List.{List, [], _++_}
+use mathlib.Core.List.{List, _++_}
 use mathlib.Core.Option.{Option, none, some}
 use borrow.Author.Tests.{ltb-false, lt-ltb, le-ltb}
 use lib.Dec.{ltb}
@@ -12,8 +12,7 @@ use lib.ListN.{length, take, drop, length-append}
 use lib.Seq.{take-at}
 use Rattle.text.specs.Buffer.{Puts, then, same-text, fits, length-kept}
 use Rattle.tables.specs.Parts.{row}
-use Rattle.opening.specs.Header.{layoutOf, settingsOf}
-use Rattle.skills.specs.declared.Skills.{Skills}
+use Rattle.opening.specs.Header.{layoutOf}
 use Rattle.lines.specs.Lines.{placeText, totalsText, countText, refusalText}
 use Rattle.lines.specs.Lengths.{refusal-length, count-length, place-length, totals-length}
 use Rattle.evaluators.specs.Laws.{values-width}
