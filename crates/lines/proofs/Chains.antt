@@ -3,7 +3,6 @@ use Prim.Native.Nat.{ℕ}
 use mathlib.Core.Path.{_≡_}
 use mathlib.Core.List.{List, [], _∷_, _++_, append-assoc, append-nil}
 use lib.Ieee.{Float}
-use Rattle.text.specs.Text.{decimalText, ascii}
 use Rattle.text.specs.Buffer.{Puts, same-text}
 use Rattle.lines.specs.Lines.{numberText, numbersText}
 

@@ -5,7 +5,6 @@ use mathlib.Core.Path.{_≡_, refl}
 use mathlib.Core.List.{List, [], _∷_}
 use lib.Ieee.{Float}
 use lib.ListN.{length, length-append}
-use Rattle.text.specs.Text.{decimalText}
 use Rattle.text.specs.Lengths.{decimal-length, f64-length}
 use Rattle.skills.specs.declared.Skills.{Skills}
 use Rattle.lines.specs.Lines.{numberText, numbersText, refusalText, countText, placeText, skillsText, totalsText}

@@ -1,12 +1,12 @@
 -- Text put into a buffer at an offset. Assumes nothing.
-use Prim.Native.Nat.{ℕ, zero, suc, _+_, _≤_, _<_, min, max}
+use Prim.Native.Nat.{ℕ, suc, _+_, _≤_, _<_, min, max}
 use native.Mathlib.Nat.{add-zero, add-suc, suc-add}
 use native.Mathlib.Decide.{decLe}
 use native.Mathlib.Omega.{arith}
 use mathlib.Core.Path.{_≡_, refl, sym, ap, _∙_, subst}
 use mathlib.Core.List.{List, [], _∷_, _++_}
 use lib.ListN.{length, take, drop, set, length-append}
-use lib.Seq.{sets, sets-eq, length-sets, set-out, take-at, length-take-le}
+use lib.Seq.{sets, sets-eq, length-sets, set-out}
 
 -- the offset behind k bytes that were put at an offset of a buffer with so much room. One beyond the room says that the buffer is too small, and stays
 unfoldable pub behind : ℕ → ℕ → ℕ → ℕ

@@ -1,10 +1,9 @@
 -- `text::put_all` meets its contract: after i turns the first i bytes are put. Assumes nothing.
-use Rattle.text.proofs.Digits.{bytes-whole}
 use borrow.Author.Needs.{needs}
 use Prim.Native.Nat.{_-_, _≤_}
 use lib.ListN.{length, take}
 use Rattle.text.specs.Buffer.{Puts, none, length-kept}
-use Rattle.text.proofs.Digits.{byte-turn}
+use Rattle.text.proofs.Digits.{bytes-whole, byte-turn}
 use Rattle.text.proofs.put_all.Statement.{statement}
 use Rattle.text.proofs.put_all.Tie as tie
 

@@ -1,10 +1,9 @@
 -- `text::put_digits` meets its contract: while `left` digits are to come, those of v shifted right by as many are put. Assumes nothing.
-use Rattle.text.proofs.Digits.{hex-none, hex-whole}
 use borrow.Author.Needs.{needs}
 use Prim.Native.Nat.{_-_, _*_, _/_, _^_, _≤_}
 use Rattle.text.specs.Text.{hexText}
 use Rattle.text.specs.Buffer.{Puts, length-kept}
-use Rattle.text.proofs.Digits.{hex-turn}
+use Rattle.text.proofs.Digits.{hex-none, hex-whole, hex-turn}
 use Rattle.text.proofs.put_digits.Statement.{statement}
 use Rattle.text.proofs.put_digits.Tie as tie
 
