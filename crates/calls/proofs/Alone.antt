@@ -5,12 +5,12 @@ use mathlib.Core.List.{List, [], _∷_, map}
 use Prim.Native.Nat.{ℕ, _≤_}
 use lib.Ieee.{Float}
 use lib.ListN.{length}
-use Rattle.opening.specs.Header.{settingsOf}
-use Rattle.opening.specs.Conditions.{ifAccepted}
-use Rattle.opening.specs.declared.Refusal.{Refusal}
-use Rattle.opening.specs.declared.Verdict.{Verdict}
-use Rattle.opening.specs.declared.Verdict.the-variants.{Accepted, Refused}
-use Rattle.replacing.specs.Replace.{putObject}
+use Rattle.chart_opening.specs.Header.{settingsOf}
+use Rattle.chart_opening.specs.Conditions.{ifAccepted}
+use Rattle.chart_opening.specs.declared.Refusal.{Refusal}
+use Rattle.chart_opening.specs.declared.Verdict.{Verdict}
+use Rattle.chart_opening.specs.declared.Verdict.the-variants.{Accepted, Refused}
+use Rattle.chart_replacing.specs.Replace.{putObject}
 use Rattle.calls.specs.Simulation.{Throughout}
 use Rattle.calls.specs.Tables.{contents, tableAfter}
 use Rattle.calls.specs.Afresh.{Figure, count}

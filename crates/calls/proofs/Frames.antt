@@ -5,13 +5,13 @@ use Prim.Native.Nat.{ℕ, _+_, _-_, _*_, _≤_, _<_, min, max}
 use native.Mathlib.Omega.{arith}
 use lib.Ieee.{Float}
 use lib.ListN.{length}
-use Rattle.tables.specs.Parts.{row}
-use Rattle.opening.specs.Header.{layoutOf, settingsOf}
-use Rattle.opening.specs.declared.Settings.{Settings}
-use Rattle.opening.specs.declared.Verdict.{Verdict}
-use Rattle.opening.specs.declared.Verdict.the-variants.{Accepted, Refused}
-use Rattle.replacing.specs.Replace.{putObject}
-use Rattle.replacing.specs.Accepted.{Taken}
+use Rattle.num_tables.specs.Parts.{row}
+use Rattle.chart_opening.specs.Header.{layoutOf, settingsOf}
+use Rattle.chart_opening.specs.declared.Settings.{Settings}
+use Rattle.chart_opening.specs.declared.Verdict.{Verdict}
+use Rattle.chart_opening.specs.declared.Verdict.the-variants.{Accepted, Refused}
+use Rattle.chart_replacing.specs.Replace.{putObject}
+use Rattle.chart_replacing.specs.Accepted.{Taken}
 use Rattle.skills.specs.Strains.{strains}
 use Rattle.skills.specs.Chart.{deltaAt}
 use Rattle.calls.specs.Tables.{recordWidth, valueWidth, Borrowed, contents, tableAfter}

@@ -7,8 +7,8 @@ use native.Mathlib.Omega.{arith}
 use lib.Ieee.{Float}
 use lib.ListN.{length, take, drop, length-take, length-drop, take-append-drop}
 use lib.Seq.{take-append-le, drop-append-le, take-take}
-use Rattle.tables.specs.Parts.{part, put, row, fill}
-use Rattle.tables.specs.Rows.{take-drop, length-put, row-fill-out}
+use Rattle.num_tables.specs.Parts.{part, put, row, fill}
+use Rattle.num_tables.specs.Rows.{take-drop, length-put, row-fill-out}
 use Rattle.calls.specs.Tables.{Borrowed, own, front, foreign, IsOwn, contents, lengthOf, tableAfter}
 
 module _ {A : Type 0} where

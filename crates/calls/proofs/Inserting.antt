@@ -6,12 +6,12 @@ use Prim.Native.Nat.{ℕ, suc, _+_, _-_, _≤_, _<_, min, max}
 use native.Mathlib.Omega.{arith}
 use native.Mathlib.Decide.{decLt}
 use lib.Ieee.{Float}
-use Rattle.tables.specs.Parts.{row}
-use Rattle.opening.specs.declared.Settings.{Settings}
-use Rattle.object.specs.Record.{recordOf, chartRecord}
-use Rattle.records.specs.Rows.{rowOf}
-use Rattle.evaluators.specs.Values.{reachOf, valuesOf}
-use Rattle.evaluators.proofs.Local.{values-moves}
+use Rattle.num_tables.specs.Parts.{row}
+use Rattle.chart_opening.specs.declared.Settings.{Settings}
+use Rattle.osu_difficulty_object.specs.Record.{recordOf, chartRecord}
+use Rattle.osu_records.specs.Rows.{rowOf}
+use Rattle.eval_values.specs.Values.{reachOf, valuesOf}
+use Rattle.eval_values.proofs.Local.{values-moves}
 use Rattle.calls.specs.Tables.{recordWidth, valueWidth}
 use Rattle.calls.specs.Afresh.{count, object, freshRecord, freshRow, freshValues, valuesFrom}
 use Rattle.calls.specs.Calls.{state}

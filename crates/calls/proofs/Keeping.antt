@@ -5,17 +5,17 @@ use Prim.Native.Nat.{ℕ, zero, suc, _+_, _-_, _≤_, _<_}
 use native.Mathlib.Decide.{decLt}
 use native.Mathlib.Omega.{arith}
 use lib.ListN.{length, drop, set}
-use Rattle.objects.specs.Objects.{Holds}
-use Rattle.objects.specs.declared.Layout.{Layout}
-use Rattle.opening.specs.Header.{layoutOf}
-use Rattle.opening.specs.Conditions.{ifAccepted}
-use Rattle.opening.specs.Accepted.{header-ok}
-use Rattle.opening.specs.declared.Verdict.{Verdict}
-use Rattle.opening.specs.declared.Verdict.the-variants.{Accepted, Refused}
-use Rattle.opening.proofs.Header.{holds}
-use Rattle.replacing.specs.Replace.{objectBytes, putObject}
-use Rattle.replacing.specs.Accepted.{Taken}
-use Rattle.replacing.specs.Replaced as R
+use Rattle.chart_fields.specs.Objects.{Holds}
+use Rattle.chart_fields.specs.declared.Layout.{Layout}
+use Rattle.chart_opening.specs.Header.{layoutOf}
+use Rattle.chart_opening.specs.Conditions.{ifAccepted}
+use Rattle.chart_opening.specs.Accepted.{header-ok}
+use Rattle.chart_opening.specs.declared.Verdict.{Verdict}
+use Rattle.chart_opening.specs.declared.Verdict.the-variants.{Accepted, Refused}
+use Rattle.chart_opening.proofs.Header.{holds}
+use Rattle.chart_replacing.specs.Replace.{objectBytes, putObject}
+use Rattle.chart_replacing.specs.Accepted.{Taken}
+use Rattle.chart_replacing.specs.Replaced as R
 use Rattle.calls.specs.Simulation.{answers, after}
 use Rattle.calls.specs.Tables.{lengthOf}
 use Rattle.calls.specs.Afresh.{count}

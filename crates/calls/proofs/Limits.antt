@@ -5,17 +5,17 @@ use mathlib.Core.Bool.{Bool, true, false, not}
 use Prim.Native.Nat.{ℕ, _/_, _≤_, _<_}
 use native.Mathlib.Omega.{arith}
 use lib.ListN.{length}
-use Rattle.objects.specs.Limits.{mostObjects}
-use Rattle.opening.specs.Header.{layoutOf, headerOk}
-use Rattle.opening.specs.Conditions.{refusalPlace, firstOf, chartConditions, openConditions, openVerdict, Opens}
-use Rattle.opening.specs.Accepted.{first-refused, header-ok}
-use Rattle.opening.specs.declared.Refusal.{Refusal}
-use Rattle.opening.specs.declared.Refusal.the-variants.{Header, Setting, Object, Entries, Order, Length, Table, Place}
-use Rattle.opening.specs.declared.Verdict.{Verdict}
-use Rattle.opening.specs.declared.Verdict.the-variants.{Accepted, Refused}
-use Rattle.opening.proofs.Header.{holds}
-use Rattle.replacing.specs.Replace.{putObject}
-use Rattle.replacing.specs.Replaced as R
+use Rattle.chart_fields.specs.Limits.{mostObjects}
+use Rattle.chart_opening.specs.Header.{layoutOf, headerOk}
+use Rattle.chart_opening.specs.Conditions.{refusalPlace, firstOf, chartConditions, openConditions, openVerdict, Opens}
+use Rattle.chart_opening.specs.Accepted.{first-refused, header-ok}
+use Rattle.chart_opening.specs.declared.Refusal.{Refusal}
+use Rattle.chart_opening.specs.declared.Refusal.the-variants.{Header, Setting, Object, Entries, Order, Length, Table, Place}
+use Rattle.chart_opening.specs.declared.Verdict.{Verdict}
+use Rattle.chart_opening.specs.declared.Verdict.the-variants.{Accepted, Refused}
+use Rattle.chart_opening.proofs.Header.{holds}
+use Rattle.chart_replacing.specs.Replace.{putObject}
+use Rattle.chart_replacing.specs.Replaced as R
 use Rattle.calls.specs.Tables.{entriesOf}
 use Rattle.calls.specs.Afresh.{Figure, count}
 use Rattle.calls.specs.Conditions.{Lengths, scratchShort, Operation, replace, readRecord, readValues, figure, figureConditions, opening, refusal}

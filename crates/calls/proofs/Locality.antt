@@ -6,21 +6,21 @@ use native.Mathlib.Omega.{arith}
 use native.Mathlib.Decide.{decLt}
 use lib.Ieee.{Float}
 use lib.ListN.{length}
-use Rattle.floats.specs.Numbers.{_⊖_, _⊘_}
-use Rattle.tables.specs.Parts.{row}
-use Rattle.tables.specs.Rows.{length-fill, take-fill, drop-fill, row-fill-in, row-fill-out}
-use Rattle.opening.specs.Header.{layoutOf, settingsOf}
-use Rattle.opening.specs.declared.Settings.{Settings}
-use Rattle.replacing.specs.Replace.{putObject}
-use Rattle.replacing.specs.Accepted.{Taken}
+use Rattle.num_floats.specs.Numbers.{_⊖_, _⊘_}
+use Rattle.num_tables.specs.Parts.{row}
+use Rattle.num_tables.specs.Rows.{length-fill, take-fill, drop-fill, row-fill-in, row-fill-out}
+use Rattle.chart_opening.specs.Header.{layoutOf, settingsOf}
+use Rattle.chart_opening.specs.declared.Settings.{Settings}
+use Rattle.chart_replacing.specs.Replace.{putObject}
+use Rattle.chart_replacing.specs.Accepted.{Taken}
 use Rattle.osu_object.specs.Osu.{Object, objectOf, osuObject}
-use Rattle.object.specs.Record.{recordOf, chartRecord}
-use Rattle.object.proofs.Laws.{start-time, delta-time, lazy-end-x, lazy-end-y}
-use Rattle.records.specs.Rows.{rowOf, recordAt}
-use Rattle.records.proofs.Laws.{row-length, record-is}
-use Rattle.evaluators.specs.Values.{reachOf, valuesOf}
-use Rattle.evaluators.specs.Laws.{values-width}
-use Rattle.evaluators.proofs.Local.{values-local}
+use Rattle.osu_difficulty_object.specs.Record.{recordOf, chartRecord}
+use Rattle.osu_difficulty_object.proofs.Laws.{start-time, delta-time, lazy-end-x, lazy-end-y}
+use Rattle.osu_records.specs.Rows.{rowOf, recordAt}
+use Rattle.osu_records.proofs.Laws.{row-length, record-is}
+use Rattle.eval_values.specs.Values.{reachOf, valuesOf}
+use Rattle.eval_values.specs.Laws.{values-width}
+use Rattle.eval_values.proofs.Local.{values-local}
 use Rattle.skills.specs.Strains.{strains}
 use Rattle.skills.specs.Chart.{startAt, deltaAt}
 use Rattle.skills.proofs.Local.{strains-local, total-local}

@@ -8,18 +8,18 @@ use native.Mathlib.Decide.{ℕ-discrete}
 use lib.Dec.{ltb, eqb}
 use lib.ListN.{length}
 use borrow.Author.Tests.{ltb-true, ltb-false, eqb-true, eqb-false}
-use Rattle.objects.specs.Search.{firstFrom, firstBelow}
-use Rattle.objects.proofs.Search.{clean}
-use Rattle.objects.specs.Objects.{badFields, falls}
-use Rattle.entries.specs.Entries.{badEntries}
-use Rattle.opening.specs.Header.{layoutOf, headerOk, settingsOf, settingsOk, tooLong}
-use Rattle.opening.specs.Conditions.{refusalNumber, refusalPlace, refuseIf, refuseAt, firstOf, bodyConditions, bodyOf, chartConditions, tooFew, openConditions, openVerdict}
-use Rattle.opening.specs.Accepted.{first-refused, first-passed, refuses}
-use Rattle.opening.specs.declared.Refusal.{Refusal}
-use Rattle.opening.specs.declared.Refusal.the-variants.{Header, Setting, Object, Entries, Order, Length, Table, Place}
-use Rattle.opening.specs.declared.Verdict.{Verdict}
-use Rattle.opening.specs.declared.Verdict.the-variants.{Accepted, Refused}
-use Rattle.replacing.specs.Replace.{putObject, placeConditions, replaceConditions, replaceVerdict}
+use Rattle.chart_fields.specs.Search.{firstFrom, firstBelow}
+use Rattle.chart_fields.proofs.Search.{clean}
+use Rattle.chart_fields.specs.Objects.{badFields, falls}
+use Rattle.chart_entries.specs.Entries.{badEntries}
+use Rattle.chart_opening.specs.Header.{layoutOf, headerOk, settingsOf, settingsOk, tooLong}
+use Rattle.chart_opening.specs.Conditions.{refusalNumber, refusalPlace, refuseIf, refuseAt, firstOf, bodyConditions, bodyOf, chartConditions, tooFew, openConditions, openVerdict}
+use Rattle.chart_opening.specs.Accepted.{first-refused, first-passed, refuses}
+use Rattle.chart_opening.specs.declared.Refusal.{Refusal}
+use Rattle.chart_opening.specs.declared.Refusal.the-variants.{Header, Setting, Object, Entries, Order, Length, Table, Place}
+use Rattle.chart_opening.specs.declared.Verdict.{Verdict}
+use Rattle.chart_opening.specs.declared.Verdict.the-variants.{Accepted, Refused}
+use Rattle.chart_replacing.specs.Replace.{putObject, placeConditions, replaceConditions, replaceVerdict}
 use Rattle.calls.specs.Tables.{entriesOf}
 use Rattle.calls.specs.Afresh.{Figure, count}
 use Rattle.calls.specs.Conditions.{Lengths, scratchShort, replace, readRecord, readValues, figure, readConditions, readVerdict, figureConditions, opening, refusal}

@@ -8,15 +8,15 @@ use native.Mathlib.Omega.{arith}
 use lib.Dec.{ltb}
 use lib.ListN.{length}
 use borrow.Author.Tests.{ltb-true, ltb-false, le-ltb}
-use Rattle.opening.specs.Header.{layoutOf, headerOk}
-use Rattle.opening.specs.Conditions.{Opens, refuseIf, firstOf, chartConditions, tooFew, openConditions, openVerdict}
-use Rattle.opening.specs.Accepted.{opens, enough, opens-with, is-met, not-met, head-accepts, tail-accepts, first-accepts, then-accepts, first-refused, first-passed}
-use Rattle.opening.specs.declared.Refusal.{Refusal}
-use Rattle.opening.specs.declared.Refusal.the-variants.{Header, Table, Place}
-use Rattle.opening.specs.declared.Verdict.{Verdict}
-use Rattle.opening.specs.declared.Verdict.the-variants.{Accepted, Refused}
-use Rattle.opening.proofs.Header.{both}
-use Rattle.replacing.specs.Accepted.{Taken, taken, room}
+use Rattle.chart_opening.specs.Header.{layoutOf, headerOk}
+use Rattle.chart_opening.specs.Conditions.{Opens, refuseIf, firstOf, chartConditions, tooFew, openConditions, openVerdict}
+use Rattle.chart_opening.specs.Accepted.{opens, enough, opens-with, is-met, not-met, head-accepts, tail-accepts, first-accepts, then-accepts, first-refused, first-passed}
+use Rattle.chart_opening.specs.declared.Refusal.{Refusal}
+use Rattle.chart_opening.specs.declared.Refusal.the-variants.{Header, Table, Place}
+use Rattle.chart_opening.specs.declared.Verdict.{Verdict}
+use Rattle.chart_opening.specs.declared.Verdict.the-variants.{Accepted, Refused}
+use Rattle.chart_opening.proofs.Header.{both}
+use Rattle.chart_replacing.specs.Accepted.{Taken, taken, room}
 use Rattle.calls.specs.Tables.{recordWidth, valueWidth, leastScratch, entriesOf}
 use Rattle.calls.specs.Afresh.{Figure, count}
 use Rattle.calls.specs.Conditions.{Lengths, replace, readRecord, readValues, figure, scratchShort, readConditions, readVerdict, figureConditions, figureVerdict, opening, refusal}

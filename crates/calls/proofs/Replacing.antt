@@ -2,17 +2,17 @@
 use mathlib.Core.Path.{_≡_, ap, _∙_}
 use mathlib.Core.List.{List}
 use Prim.Native.Nat.{ℕ, _+_}
-use Rattle.objects.specs.Objects.{Holds, fieldsOf}
-use Rattle.objects.specs.declared.Fields.{Fields}
-use Rattle.objects.specs.declared.Layout.{Layout}
-use Rattle.entries.specs.Entries.{nestedOf, pointOf}
-use Rattle.entries.specs.Same.{SameEntries}
-use Rattle.opening.specs.Header.{layoutOf, settingsOf}
-use Rattle.opening.specs.Accepted.{header-ok}
-use Rattle.opening.proofs.Header.{holds}
-use Rattle.replacing.specs.Replace.{putObject}
-use Rattle.replacing.specs.Accepted.{Taken}
-use Rattle.replacing.specs.Replaced as R
+use Rattle.chart_fields.specs.Objects.{Holds, fieldsOf}
+use Rattle.chart_fields.specs.declared.Fields.{Fields}
+use Rattle.chart_fields.specs.declared.Layout.{Layout}
+use Rattle.chart_entries.specs.Entries.{nestedOf, pointOf}
+use Rattle.chart_entries.specs.Same.{SameEntries}
+use Rattle.chart_opening.specs.Header.{layoutOf, settingsOf}
+use Rattle.chart_opening.specs.Accepted.{header-ok}
+use Rattle.chart_opening.proofs.Header.{holds}
+use Rattle.chart_replacing.specs.Replace.{putObject}
+use Rattle.chart_replacing.specs.Accepted.{Taken}
+use Rattle.chart_replacing.specs.Replaced as R
 use Rattle.osu_object.specs.Osu.{objectOf, osuObject}
 use Rattle.osu_object.proofs.Alike as Same
 use Rattle.calls.specs.Afresh.{count, object}

@@ -6,17 +6,17 @@ use native.Mathlib.Omega.{arith}
 use lib.Ieee.{Float}
 use lib.ListN.{length, take, drop}
 use lib.Seq.{drop-drop}
-use Rattle.tables.specs.Parts.{row, fill}
-use Rattle.records.specs.Rows.{recordAt}
-use Rattle.records.proofs.Laws.{record-same}
-use Rattle.opening.specs.Header.{settingsOf}
-use Rattle.opening.specs.Conditions.{ifAccepted, Opens}
-use Rattle.opening.specs.declared.Settings.{Settings}
-use Rattle.opening.specs.declared.Refusal.{Refusal}
-use Rattle.opening.specs.declared.Verdict.{Verdict}
-use Rattle.opening.specs.declared.Verdict.the-variants.{Accepted, Refused}
-use Rattle.replacing.specs.Replace.{putObject}
-use Rattle.replacing.specs.Accepted.{Taken}
+use Rattle.num_tables.specs.Parts.{row, fill}
+use Rattle.osu_records.specs.Rows.{recordAt}
+use Rattle.osu_records.proofs.Laws.{record-same}
+use Rattle.chart_opening.specs.Header.{settingsOf}
+use Rattle.chart_opening.specs.Conditions.{ifAccepted, Opens}
+use Rattle.chart_opening.specs.declared.Settings.{Settings}
+use Rattle.chart_opening.specs.declared.Refusal.{Refusal}
+use Rattle.chart_opening.specs.declared.Verdict.{Verdict}
+use Rattle.chart_opening.specs.declared.Verdict.the-variants.{Accepted, Refused}
+use Rattle.chart_replacing.specs.Replace.{putObject}
+use Rattle.chart_replacing.specs.Accepted.{Taken}
 use Rattle.calls.specs.Tables.{recordWidth, valueWidth, Borrowed, IsOwn, contents, lengthOf, tableAfter}
 use Rattle.calls.specs.Afresh.{count, object, freshRow, valuesFrom, freshFigure, figureFrom, figureOf}
 use Rattle.calls.specs.Conditions.{Operation, replace, readRecord, readValues, figure, refusal}

@@ -7,14 +7,14 @@ use native.Mathlib.Omega.{arith}
 use native.Mathlib.Decide.{decLt}
 use lib.Ieee.{Float}
 use lib.ListN.{length}
-use Rattle.tables.specs.Parts.{row}
-use Rattle.objects.specs.Objects.{fieldsOf}
-use Rattle.objects.specs.declared.Fields.{Fields}
-use Rattle.opening.specs.Header.{layoutOf, settingsOf}
-use Rattle.opening.specs.declared.Verdict.the-variants.{Accepted}
+use Rattle.num_tables.specs.Parts.{row}
+use Rattle.chart_fields.specs.Objects.{fieldsOf}
+use Rattle.chart_fields.specs.declared.Fields.{Fields}
+use Rattle.chart_opening.specs.Header.{layoutOf, settingsOf}
+use Rattle.chart_opening.specs.declared.Verdict.the-variants.{Accepted}
 use Rattle.osu_object.specs.Osu.{osuObject, kindOf}
 use Rattle.osu_object.proofs.Alike as Same
-use Rattle.evaluators.specs.Values.{reachOf}
+use Rattle.eval_values.specs.Values.{reachOf}
 use Rattle.skills.proofs.Settles.{walk-unbounded}
 use Rattle.calls.specs.Simulation.{answers, after, Throughout}
 use Rattle.calls.specs.Tables.{recordWidth, valueWidth, Borrowed}

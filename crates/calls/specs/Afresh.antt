@@ -3,14 +3,14 @@
 use mathlib.Core.List.{List}
 use Prim.Native.Nat.{ℕ, zero}
 use lib.Ieee.{Float}
-use Rattle.tables.specs.Parts.{row}
-use Rattle.opening.specs.Header.{layoutOf}
-use Rattle.opening.specs.declared.Settings.{Settings}
+use Rattle.num_tables.specs.Parts.{row}
+use Rattle.chart_opening.specs.Header.{layoutOf}
+use Rattle.chart_opening.specs.declared.Settings.{Settings}
 use Rattle.osu_object.specs.Osu.{Object, objectOf}
-use Rattle.object.specs.Record.{chartRecord}
-use Rattle.object.specs.declared.OsuDifficultyObject.{OsuDifficultyObject}
-use Rattle.records.specs.Rows as Rows
-use Rattle.evaluators.specs.Values.{reachOf, valuesOf, valuesIn}
+use Rattle.osu_difficulty_object.specs.Record.{chartRecord}
+use Rattle.osu_difficulty_object.specs.declared.OsuDifficultyObject.{OsuDifficultyObject}
+use Rattle.osu_records.specs.Rows as Rows
+use Rattle.eval_values.specs.Values.{reachOf, valuesOf, valuesIn}
 use Rattle.skills.specs.declared.Skills.{Skills}
 use Rattle.skills.specs.Strains.{strains, total}
 use Rattle.skills.specs.Chart.{startAt, deltaAt}

@@ -4,15 +4,15 @@ use mathlib.Core.List.{List, []}
 use Prim.Native.Nat.{ℕ, _+_, _-_, min, max}
 use lib.Ieee.{Float}
 use lib.ListN.{length, replicate}
-use Rattle.floats.specs.Numbers.{zero64}
-use Rattle.tables.specs.Parts.{row, fill}
-use Rattle.records.specs.Rows.{recordAt}
-use Rattle.opening.specs.Header.{settingsOf}
-use Rattle.opening.specs.Conditions.{ifAccepted}
-use Rattle.opening.specs.declared.Settings.{Settings}
-use Rattle.opening.specs.declared.Refusal.{Refusal}
-use Rattle.opening.specs.declared.Verdict.{Verdict}
-use Rattle.replacing.specs.Replace.{putObject}
+use Rattle.num_floats.specs.Numbers.{zero64}
+use Rattle.num_tables.specs.Parts.{row, fill}
+use Rattle.osu_records.specs.Rows.{recordAt}
+use Rattle.chart_opening.specs.Header.{settingsOf}
+use Rattle.chart_opening.specs.Conditions.{ifAccepted}
+use Rattle.chart_opening.specs.declared.Settings.{Settings}
+use Rattle.chart_opening.specs.declared.Refusal.{Refusal}
+use Rattle.chart_opening.specs.declared.Verdict.{Verdict}
+use Rattle.chart_replacing.specs.Replace.{putObject}
 use Rattle.calls.specs.Tables.{recordWidth, valueWidth, Borrowed, contents, lengthOf, tableAfter}
 use Rattle.calls.specs.Afresh.{Record, count, freshRecord, freshRow, freshValues, valuesFrom, Figure, Amount, freshFigure, figureFrom}
 use Rattle.calls.specs.Conditions.{Scratch, lengths, Operation, replace, readRecord, readValues, figure, opening, refusal}

@@ -5,11 +5,11 @@ use Prim.Native.Nat.{ℕ}
 use lib.Dec.{ltb}
 use lib.Ieee.{Float}
 use lib.ListN.{length}
-use Rattle.opening.specs.Header.{layoutOf, headerOk}
-use Rattle.opening.specs.Conditions.{refuseIf, firstOf, chartConditions, tooFew, openVerdict}
-use Rattle.opening.specs.declared.Refusal.the-variants.{Header, Table, Place}
-use Rattle.opening.specs.declared.Verdict.{Verdict}
-use Rattle.replacing.specs.Replace.{replaceVerdict}
+use Rattle.chart_opening.specs.Header.{layoutOf, headerOk}
+use Rattle.chart_opening.specs.Conditions.{refuseIf, firstOf, chartConditions, tooFew, openVerdict}
+use Rattle.chart_opening.specs.declared.Refusal.the-variants.{Header, Table, Place}
+use Rattle.chart_opening.specs.declared.Verdict.{Verdict}
+use Rattle.chart_replacing.specs.Replace.{replaceVerdict}
 use Rattle.calls.specs.Tables.{leastScratch, recordEntries, valueEntries, entriesOf}
 use Rattle.calls.specs.Afresh.{Figure}
 

@@ -7,20 +7,20 @@ use mathlib.Core.Bool.{Bool, true, false, cond}
 use Prim.Native.Nat.{ℕ, zero, suc, _+_, _*_, _<_, _≤_}
 use lib.Ieee.{Float}
 use lib.ListN.{length, take, drop, set}
-use Rattle.floats.specs.Fields.{u32At}
-use Rattle.objects.specs.Limits.{headerSize, mostObjects}
-use Rattle.objects.specs.Objects.{fieldsOf, badFields, falls}
-use Rattle.objects.specs.declared.Fields.{Fields}
-use Rattle.entries.specs.Entries.{nestedOf, pointOf, badEntries}
-use Rattle.tables.specs.Parts.{row}
-use Rattle.records.specs.Rows.{recordAt}
-use Rattle.opening.specs.Header.{layoutOf, settingsOf}
-use Rattle.opening.specs.Conditions.{Opens, refusalNumber, refusalPlace}
-use Rattle.opening.specs.declared.Settings.{Settings}
-use Rattle.opening.specs.declared.Refusal.{Refusal}
-use Rattle.opening.specs.declared.Refusal.the-variants.{Header, Setting, Object, Entries, Order, Length, Table, Place}
-use Rattle.opening.specs.declared.Verdict.the-variants.{Accepted, Refused}
-use Rattle.replacing.specs.Replace.{objectBytes, putObject}
+use Rattle.num_floats.specs.Fields.{u32At}
+use Rattle.chart_fields.specs.Limits.{headerSize, mostObjects}
+use Rattle.chart_fields.specs.Objects.{fieldsOf, badFields, falls}
+use Rattle.chart_fields.specs.declared.Fields.{Fields}
+use Rattle.chart_entries.specs.Entries.{nestedOf, pointOf, badEntries}
+use Rattle.num_tables.specs.Parts.{row}
+use Rattle.osu_records.specs.Rows.{recordAt}
+use Rattle.chart_opening.specs.Header.{layoutOf, settingsOf}
+use Rattle.chart_opening.specs.Conditions.{Opens, refusalNumber, refusalPlace}
+use Rattle.chart_opening.specs.declared.Settings.{Settings}
+use Rattle.chart_opening.specs.declared.Refusal.{Refusal}
+use Rattle.chart_opening.specs.declared.Refusal.the-variants.{Header, Setting, Object, Entries, Order, Length, Table, Place}
+use Rattle.chart_opening.specs.declared.Verdict.the-variants.{Accepted, Refused}
+use Rattle.chart_replacing.specs.Replace.{objectBytes, putObject}
 use Rattle.skills.specs.declared.Skill.{Skill}
 use Rattle.skills.specs.Strains.{initialStrain, room, closeTo, reached, walk}
 use Rattle.skills.specs.Chart.{startAt}

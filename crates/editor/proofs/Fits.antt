@@ -4,14 +4,14 @@ use mathlib.Core.Path.{_≡_}
 use mathlib.Core.List.{List}
 use native.Mathlib.Omega.{arith}
 use lib.ListN.{length}
-use Rattle.objects.specs.Limits.{headerSize, mostObjects}
-use Rattle.objects.specs.Objects.{Holds}
-use Rattle.opening.specs.Header.{layoutOf}
-use Rattle.opening.specs.Accepted.{header-ok}
-use Rattle.opening.specs.declared.Verdict.the-variants.{Accepted}
-use Rattle.opening.proofs.Header.{parts, holds}
+use Rattle.chart_fields.specs.Limits.{headerSize, mostObjects}
+use Rattle.chart_fields.specs.Objects.{Holds}
+use Rattle.chart_opening.specs.Header.{layoutOf}
+use Rattle.chart_opening.specs.Accepted.{header-ok}
+use Rattle.chart_opening.specs.declared.Verdict.the-variants.{Accepted}
+use Rattle.chart_opening.proofs.Header.{parts, holds}
 use Rattle.osu_object.specs.Osu.{Ready}
-use Rattle.object.proofs.Accepted.{chart-ready}
+use Rattle.osu_difficulty_object.proofs.Accepted.{chart-ready}
 use Rattle.calls.specs.Tables.{recordWidth, valueWidth, valueEntries}
 use Rattle.calls.specs.Afresh.{totals}
 use Rattle.calls.specs.Conditions.{Lengths, scratchShort, figure, figureVerdict, opening, refusal}

@@ -4,17 +4,17 @@ use mathlib.Core.Path.{_≡_, refl, ap, _∙_}
 use mathlib.Core.List.{List, []}
 use lib.Ieee.{Float}
 use lib.ListN.{length}
-use Rattle.tables.specs.Parts.{row, fill}
-use Rattle.records.specs.Fill.{filled, filledRange}
-use Rattle.records.specs.Rows.{recordAt}
-use Rattle.opening.specs.Header.{layoutOf, settingsOf}
-use Rattle.opening.specs.Conditions.{ifAccepted}
-use Rattle.opening.specs.declared.Settings.{Settings}
-use Rattle.opening.specs.declared.Refusal.{Refusal}
-use Rattle.opening.specs.declared.Verdict.{Verdict}
-use Rattle.opening.specs.declared.Verdict.the-variants.{Accepted, Refused}
-use Rattle.replacing.specs.Replace.{putObject, replaceVerdict}
-use Rattle.evaluators.specs.Values.{valuesIn}
+use Rattle.num_tables.specs.Parts.{row, fill}
+use Rattle.osu_records.specs.Fill.{filled, filledRange}
+use Rattle.osu_records.specs.Rows.{recordAt}
+use Rattle.chart_opening.specs.Header.{layoutOf, settingsOf}
+use Rattle.chart_opening.specs.Conditions.{ifAccepted}
+use Rattle.chart_opening.specs.declared.Settings.{Settings}
+use Rattle.chart_opening.specs.declared.Refusal.{Refusal}
+use Rattle.chart_opening.specs.declared.Verdict.{Verdict}
+use Rattle.chart_opening.specs.declared.Verdict.the-variants.{Accepted, Refused}
+use Rattle.chart_replacing.specs.Replace.{putObject, replaceVerdict}
+use Rattle.eval_values.specs.Values.{valuesIn}
 use Rattle.skills.specs.Chart as Chart
 use Rattle.calls.specs.Tables.{valueWidth, recordEntries, valueEntries, entriesOf}
 use Rattle.calls.specs.Afresh.{totals, totalsAre, totalsOf, figureOf}

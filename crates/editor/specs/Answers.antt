@@ -1,9 +1,9 @@
 -- What each call's answer stands for among the answers of crate calls. Definitions only.
 use mathlib.Core.List.{List}
 use lib.Ieee.{Float}
-use Rattle.opening.specs.declared.Verdict.{Verdict}
-use Rattle.opening.specs.declared.Verdict.the-variants.{Accepted, Refused}
-use Rattle.evaluators.specs.Values.{rowOf}
+use Rattle.chart_opening.specs.declared.Verdict.{Verdict}
+use Rattle.chart_opening.specs.declared.Verdict.the-variants.{Accepted, Refused}
+use Rattle.eval_values.specs.Values.{rowOf}
 use Rattle.calls.specs.Afresh.{totalsAre}
 use Rattle.calls.specs.Conditions.{Scratch}
 use Rattle.calls.specs.Calls.{Answer, refused, replaced, recordIs, valuesAre, figureIs}

@@ -4,18 +4,18 @@ ghost use mathlib.Core.Path.{_≡_};
 ghost use mathlib.Core.List.{[]};
 ghost use Prim.Native.Nat.{_-_, _<_, min, max};
 ghost use lib.ListN.{length};
-ghost use Rattle.opening.specs.Header.{layoutOf, settingsOf};
-ghost use Rattle.opening.specs.declared.Verdict.the-variants.{Accepted};
+ghost use Rattle.chart_opening.specs.Header.{layoutOf, settingsOf};
+ghost use Rattle.chart_opening.specs.declared.Verdict.the-variants.{Accepted};
 ghost use Rattle.calls.specs.Tables.{entriesOf};
 ghost use Rattle.calls.specs.Afresh as figures;
 ghost use Rattle.calls.specs.Conditions as ops;
 ghost use Rattle.calls.specs.Conditions.{lengths, scratchShort, readVerdict, figureVerdict, opening};
 ghost use Rattle.calls.specs.Calls.{state, result, opened, openAnswer, openLeaves, outcome, scratchAfter, editRecords, editValues};
 ghost use Rattle.editor.specs.Answers.{replaceAnswer, recordAnswer, valuesAnswer, totalsAnswer, scratchOf};
-use evaluators::Values;
-use object::OsuDifficultyObject;
-use opening::Refusal;
-use opening::Verdict;
+use chart_opening::Refusal;
+use chart_opening::Verdict;
+use eval_values::Values;
+use osu_difficulty_object::OsuDifficultyObject;
 use skills::Skills;
 
 // A record of the table, or why it is not read.
@@ -79,10 +79,10 @@ fn fill_tables(chart: &[u8], records: &mut [f64], values: &mut [f64])
     ensures records { λ _. ⌜ now (records .exit) ≡ opened (state (now (chart .entry)) (now (records .entry)) (now (values .entry))) .records ⌝ }
     ensures values { λ _. ⌜ now (values .exit) ≡ opened (state (now (chart .entry)) (now (records .entry)) (now (values .entry))) .values ⌝ }
 {
-    let lay = opening::layout_of(chart);
-    let set = opening::settings_at(chart, SETTINGS_AT);
-    records::fill(chart, lay, set, records);
-    evaluators::fill_values(values, records, chart, lay, set, 1, lay.n);
+    let lay = chart_opening::layout_of(chart);
+    let set = chart_opening::settings_at(chart, SETTINGS_AT);
+    osu_records::fill(chart, lay, set, records);
+    eval_values::fill_values(values, records, chart, lay, set, 1, lay.n);
 }
 
 // Checks a chart and fills its tables.
@@ -91,7 +91,7 @@ pub fn open(chart: &[u8], records: &mut [f64], values: &mut [f64]) -> Verdict
     ensures leaves { λ _. ⌜ state (now (chart .exit)) (now (records .exit)) (now (values .exit))
         ≡ openLeaves (state (now (chart .entry)) (now (records .entry)) (now (values .entry))) ⌝ }
 {
-    match opening::check(chart, entries_in(records.len(), values.len())) {
+    match chart_opening::check(chart, entries_in(records.len(), values.len())) {
         Verdict::Refused(r) => Verdict::Refused(r),
         Verdict::Accepted => {
             fill_tables(chart, records, values);
@@ -107,10 +107,10 @@ fn bring_up_to_date(chart: &[u8], place: usize, records: &mut [f64], values: &mu
     ensures values { λ _. ⌜ now (values .exit)
         ≡ editValues (settingsOf (now (chart .entry))) (now (chart .entry)) place (now (records .exit)) (now (values .entry)) ⌝ }
 {
-    let lay = opening::layout_of(chart);
-    let set = opening::settings_at(chart, SETTINGS_AT);
+    let lay = chart_opening::layout_of(chart);
+    let set = chart_opening::settings_at(chart, SETTINGS_AT);
     let n = lay.n;
-    records::fill_range(
+    osu_records::fill_range(
         chart,
         lay,
         set,
@@ -119,7 +119,7 @@ fn bring_up_to_date(chart: &[u8], place: usize, records: &mut [f64], values: &mu
         records,
     );
     let from = from_one(before(place));
-    evaluators::fill_values(
+    eval_values::fill_values(
         values,
         records,
         chart,
@@ -142,7 +142,7 @@ pub fn replace(
         ≡ outcome (ops.replace place (now (object .entry))) (state (now (chart .entry)) (now (records .entry)) (now (values .entry))) ⌝ }
     ensures object { λ _. ⌜ now (object .exit) ≡ now (object .entry) ⌝ }
 {
-    match replacing::replace(
+    match chart_replacing::replace(
         chart,
         place,
         object,
@@ -160,10 +160,10 @@ pub fn replace(
 fn check_reading(chart: &[u8], entries: usize, place: usize) -> Verdict
     ensures { λ r. ⌜ r ≡ readVerdict (now (chart .entry)) entries place ⌝ }
 {
-    if !opening::header_ok(chart) {
+    if !chart_opening::header_ok(chart) {
         return Verdict::Refused(Refusal::Header);
     }
-    let lay = opening::layout_of(chart);
+    let lay = chart_opening::layout_of(chart);
     if entries < lay.n {
         return Verdict::Refused(Refusal::Table);
     }
@@ -180,7 +180,7 @@ pub fn read_record(chart: &[u8], records: &[f64], place: usize) -> RecordAnswer
 {
     match check_reading(chart, records.len() / RECORD_WIDTH, place) {
         Verdict::Refused(r) => RecordAnswer::Refused(r),
-        Verdict::Accepted => RecordAnswer::Record(records::record_at(records, place)),
+        Verdict::Accepted => RecordAnswer::Record(osu_records::record_at(records, place)),
     }
 }
 
@@ -191,7 +191,7 @@ pub fn read_values(chart: &[u8], values: &[f64], place: usize) -> ValuesAnswer
 {
     match check_reading(chart, values.len() / VALUE_WIDTH, place) {
         Verdict::Refused(r) => ValuesAnswer::Refused(r),
-        Verdict::Accepted => ValuesAnswer::Values(evaluators::row_at(values, place)),
+        Verdict::Accepted => ValuesAnswer::Values(eval_values::row_at(values, place)),
     }
 }
 
@@ -208,7 +208,7 @@ fn scratch_short(aim: usize, aim_no_sliders: usize, speed: usize, flashlight: us
 pub fn check_figure(chart: &[u8], entries: usize, short: bool) -> Verdict
     ensures { λ r. ⌜ r ≡ figureVerdict (now (chart .entry)) entries short ⌝ }
 {
-    match opening::check(chart, entries) {
+    match chart_opening::check(chart, entries) {
         Verdict::Refused(r) => Verdict::Refused(r),
         Verdict::Accepted => {
             if short {
@@ -245,8 +245,8 @@ pub fn totals(
     match check_figure(chart, values.len() / VALUE_WIDTH, short) {
         Verdict::Refused(r) => TotalsAnswer::Refused(r),
         Verdict::Accepted => {
-            let lay = opening::layout_of(chart);
-            let clock = opening::settings_at(chart, SETTINGS_AT).clock_rate;
+            let lay = chart_opening::layout_of(chart);
+            let clock = chart_opening::settings_at(chart, SETTINGS_AT).clock_rate;
             let t = skills::totals(
                 chart,
                 lay,

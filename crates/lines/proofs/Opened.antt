@@ -5,15 +5,15 @@ use mathlib.Core.List.{List}
 use native.Mathlib.Omega.{arith}
 use lib.Ieee.{Float}
 use lib.ListN.{length}
-use Rattle.objects.specs.Objects.{Holds}
-use Rattle.objects.specs.declared.Layout.{Layout}
-use Rattle.opening.specs.Header.{layoutOf}
-use Rattle.opening.specs.Conditions.{openVerdict}
-use Rattle.opening.specs.declared.Verdict.{Verdict}
-use Rattle.opening.specs.declared.Verdict.the-variants.{Accepted}
-use Rattle.opening.proofs.Header.{parts, holds}
+use Rattle.chart_fields.specs.Objects.{Holds}
+use Rattle.chart_fields.specs.declared.Layout.{Layout}
+use Rattle.chart_opening.specs.Header.{layoutOf}
+use Rattle.chart_opening.specs.Conditions.{openVerdict}
+use Rattle.chart_opening.specs.declared.Verdict.{Verdict}
+use Rattle.chart_opening.specs.declared.Verdict.the-variants.{Accepted}
+use Rattle.chart_opening.proofs.Header.{parts, holds}
 use Rattle.osu_object.specs.Osu.{Ready}
-use Rattle.object.proofs.Accepted.{Opened, opened}
+use Rattle.osu_difficulty_object.proofs.Accepted.{Opened, opened}
 use Rattle.skills.specs.Chart.{Readable}
 
 -- the chart is ready to be read, and tables of so many entries have a row for each object

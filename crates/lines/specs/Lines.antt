@@ -5,7 +5,7 @@ use mathlib.Core.List.{List, [], _∷_, _++_}
 use lib.Ieee.{Float}
 use Rattle.text.specs.Text.{ascii, decimalText, f64Text, f32Text}
 use Rattle.skills.specs.declared.Skills.{Skills}
-use Rattle.object.specs.declared.OsuDifficultyObject.{OsuDifficultyObject}
+use Rattle.osu_difficulty_object.specs.declared.OsuDifficultyObject.{OsuDifficultyObject}
 
 -- a space and the bits of a number
 unfoldable pub numberText : Float → List ℕ

@@ -1,12 +1,12 @@
 // Lines of the programs' answers. As in `text`, each function appends at an offset of a lent buffer and returns the offset behind what it wrote.
 ghost use Rattle.text.specs.Buffer.{Puts};
-ghost use Rattle.evaluators.specs.Values.{rowOf};
-ghost use Rattle.opening.specs.Conditions.{refusalNumber, refusalPlace};
+ghost use Rattle.eval_values.specs.Values.{rowOf};
+ghost use Rattle.chart_opening.specs.Conditions.{refusalNumber, refusalPlace};
 ghost use Rattle.lines.specs.Lines.{numberText, narrowText, flagText, refusalText, countText, placeText, skillsText, totalsText};
 ghost use Rattle.lines.specs.Lines.{jumpText, travelText, recordText};
-use evaluators::Values;
-use object::OsuDifficultyObject;
-use opening::Refusal;
+use chart_opening::Refusal;
+use eval_values::Values;
+use osu_difficulty_object::OsuDifficultyObject;
 use skills::Skills;
 
 // A space and the bits of a number.
@@ -139,7 +139,7 @@ pub fn show_values(out: &mut [u8], values: &[f64], n: usize) {
     let mut j = 1;
     while j < n {
         end = text::show_if_full(out, end);
-        end = put_values(out, end, j, evaluators::row_at(values, j));
+        end = put_values(out, end, j, eval_values::row_at(values, j));
         j += 1;
     }
     text::show(out, end);

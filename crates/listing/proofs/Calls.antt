@@ -8,16 +8,16 @@ use mathlib.Core.List.{List, []}
 use borrow.Author.Tests.{lt-ltb, le-ltb}
 use lib.Ieee.{Float}
 use lib.ListN.{length}
-use Rattle.tables.specs.Parts.{row}
-use Rattle.opening.specs.Header.{layoutOf, settingsOf}
-use Rattle.opening.specs.Conditions.{refusalNumber, refusalPlace, firstOf, ifAccepted, chartConditions, Opens, openConditions}
-use Rattle.opening.specs.Accepted.{first-refused, header-ok}
-use Rattle.opening.specs.declared.Refusal.{Refusal}
-use Rattle.opening.specs.declared.Verdict.{Verdict}
-use Rattle.opening.specs.declared.Verdict.the-variants.{Accepted, Refused}
-use Rattle.opening.proofs.Header.{holds}
-use Rattle.evaluators.specs.declared.Values.{Values}
-use Rattle.evaluators.specs.Values.{rowOf}
+use Rattle.num_tables.specs.Parts.{row}
+use Rattle.chart_opening.specs.Header.{layoutOf, settingsOf}
+use Rattle.chart_opening.specs.Conditions.{refusalNumber, refusalPlace, firstOf, ifAccepted, chartConditions, Opens, openConditions}
+use Rattle.chart_opening.specs.Accepted.{first-refused, header-ok}
+use Rattle.chart_opening.specs.declared.Refusal.{Refusal}
+use Rattle.chart_opening.specs.declared.Verdict.{Verdict}
+use Rattle.chart_opening.specs.declared.Verdict.the-variants.{Accepted, Refused}
+use Rattle.chart_opening.proofs.Header.{holds}
+use Rattle.eval_values.specs.declared.Values.{Values}
+use Rattle.eval_values.specs.Values.{rowOf}
 use Rattle.skills.specs.declared.Skills.{Skills}
 use Rattle.calls.specs.Tables.{recordWidth, valueWidth}
 use Rattle.calls.specs.Afresh.{freshValues, totals, Amount, totalsAre, totalsOf, figureOf}

@@ -10,15 +10,15 @@ use lib.Ieee.{Float}
 use lib.ListN.{length, take, drop, length-append}
 use lib.Seq.{take-at}
 use Rattle.text.specs.Buffer.{Puts, then, same-text, fits, length-kept}
-use Rattle.tables.specs.Parts.{row}
-use Rattle.opening.specs.Header.{layoutOf, settingsOf}
+use Rattle.num_tables.specs.Parts.{row}
+use Rattle.chart_opening.specs.Header.{layoutOf, settingsOf}
 use Rattle.skills.specs.declared.Skills.{Skills}
 use Rattle.lines.specs.Lines.{placeText, totalsText, countText, refusalText}
 use Rattle.lines.specs.Lengths.{refusal-length, count-length, place-length, totals-length}
-use Rattle.evaluators.specs.Laws.{values-width}
-use Rattle.opening.specs.Conditions.{refusalNumber, refusalPlace, firstOf, ifAccepted, chartConditions}
-use Rattle.opening.specs.declared.Verdict.{Verdict}
-use Rattle.opening.specs.declared.Verdict.the-variants.{Accepted, Refused}
+use Rattle.eval_values.specs.Laws.{values-width}
+use Rattle.chart_opening.specs.Conditions.{refusalNumber, refusalPlace, firstOf, ifAccepted, chartConditions}
+use Rattle.chart_opening.specs.declared.Verdict.{Verdict}
+use Rattle.chart_opening.specs.declared.Verdict.the-variants.{Accepted, Refused}
 use Rattle.calls.specs.Afresh.{freshValues}
 use Rattle.listing.specs.List.{limit, beyondText, metText, placesText, openedText, valuesAfresh, totalsAfresh, afreshText, chartText, listText, mostListed, Filled}
 use Rattle.listing.proofs.Calls.{few-objects}

@@ -4,36 +4,36 @@ use mathlib.Core.Path.{_≡_, refl}
 use mathlib.Core.List.{List, [], _∷_, _++_}
 use Rattle.text.specs.Text.{ascii}
 use lib.Ieee.{add, climb, div, eq, le, lt, mul, ne, neg, odd, ofBits, ofFields, ofInt, rem, round, size, span, sub, sum, toBits, toSigned}
-use Rattle.floats.specs.Compare.{absOf, clampOf, maxOf, minOf}
-use Rattle.floats.specs.Fields.{f32At, f64At, u32At, u64At}
-use Rattle.roots.specs.Root.{rootDrop, rootKept, rootOf}
-use Rattle.whole.specs.Whole.{ceilOf, truncOf}
-use Rattle.elementary.specs.Log.{logBits, logOf}
-use Rattle.elementary.specs.Power.{expOf, log10Of, powerOf, powerOther}
-use Rattle.elementary.specs.Two.{twoOf, twoRoot, twoRound}
-use Rattle.pos.specs.Pos.{lengthOf}
-use Rattle.objects.specs.Objects.{badFields, falls, fieldsAt, fieldsOf, fieldsOk}
-use Rattle.objects.specs.Search.{firstBelow, firstFrom}
-use Rattle.entries.specs.Entries.{badEntries, lengthOk, nestedAt}
+use Rattle.num_floats.specs.Compare.{absOf, clampOf, maxOf, minOf}
+use Rattle.num_floats.specs.Fields.{f32At, f64At, u32At, u64At}
+use Rattle.num_roots.specs.Root.{rootDrop, rootKept, rootOf}
+use Rattle.num_whole.specs.Whole.{ceilOf, truncOf}
+use Rattle.num_elementary.specs.Log.{logBits, logOf}
+use Rattle.num_elementary.specs.Power.{expOf, log10Of, powerOf, powerOther}
+use Rattle.num_elementary.specs.Two.{twoOf, twoRoot, twoRound}
+use Rattle.osu_pos.specs.Pos.{lengthOf}
+use Rattle.chart_fields.specs.Objects.{badFields, falls, fieldsAt, fieldsOf, fieldsOk}
+use Rattle.chart_fields.specs.Search.{firstBelow, firstFrom}
+use Rattle.chart_entries.specs.Entries.{badEntries, lengthOk, nestedAt}
 use Rattle.osu_object.specs.Base.{baseOf, repeatsOf}
 use Rattle.osu_object.specs.Osu.{countBelow, endPos, kindOf, lastBelow, listFrom, objectOf, osuObject, repeatCount, runsOf}
-use Rattle.opening.specs.Header.{countsOk, headerOk, layoutOf, offsetsOk, reservedOk, settingsAt, settingsOk, tooLong}
-use Rattle.object.specs.Reading.{doubletapness, fadeIn, fadeOut}
-use Rattle.object.specs.Record.{angleTo, endCursor, jumpDist, jumpFrom, jumpOf, lastCursor, minJumpDist, minJumpTime, newRecord, placedOf, plainOf, recordOf as objectRecordOf}
-use Rattle.util.specs.Difficulty.{millisecondsToBpm, reverseLerp, smootherstep}
-use Rattle.aim.specs.Aim.{aimOf, allParts, anglesOf}
-use Rattle.speed.specs.Speed.{distBonus, speedAtPlace, speedBonus, speedOf, strainTime, travelBefore}
-use Rattle.rhythm.specs.Rhythm.{cellOf, rhythmAtPlace, rhythmOf, runOf, startFrom, startOf, valueOf as rhythmValueOf}
-use Rattle.rhythm.specs.Step.{factorOf, fasterTwice, freshState as rhythmFreshState, freshWalk, lastRatio, progressedOf}
-use Rattle.flashlight.specs.Flashlight.{addedOf, evaluatorOf, flashlightOf, freshState as flashlightFreshState, hiddenOf, opacityBonus, repeatedOf, sharedOf, sliderBonus, smallDistNerf, stepOf, turnsOf, valueOf as flashlightValueOf}
-use Rattle.evaluators.specs.Values.{valuesOf}
-use Rattle.sort.specs.Sort.{insert, sortDesc}
+use Rattle.chart_opening.specs.Header.{countsOk, headerOk, layoutOf, offsetsOk, reservedOk, settingsAt, settingsOk, tooLong}
+use Rattle.osu_difficulty_object.specs.Reading.{doubletapness, fadeIn, fadeOut}
+use Rattle.osu_difficulty_object.specs.Record.{angleTo, endCursor, jumpDist, jumpFrom, jumpOf, lastCursor, minJumpDist, minJumpTime, newRecord, placedOf, plainOf, recordOf as objectRecordOf}
+use Rattle.num_util.specs.Difficulty.{millisecondsToBpm, reverseLerp, smootherstep}
+use Rattle.eval_aim.specs.Aim.{aimOf, allParts, anglesOf}
+use Rattle.eval_speed.specs.Speed.{distBonus, speedAtPlace, speedBonus, speedOf, strainTime, travelBefore}
+use Rattle.eval_rhythm.specs.Rhythm.{cellOf, rhythmAtPlace, rhythmOf, runOf, startFrom, startOf, valueOf as rhythmValueOf}
+use Rattle.eval_rhythm.specs.Step.{factorOf, fasterTwice, freshState as rhythmFreshState, freshWalk, lastRatio, progressedOf}
+use Rattle.eval_flashlight.specs.Flashlight.{addedOf, evaluatorOf, flashlightOf, freshState as flashlightFreshState, hiddenOf, opacityBonus, repeatedOf, sharedOf, sliderBonus, smallDistNerf, stepOf, turnsOf, valueOf as flashlightValueOf}
+use Rattle.eval_values.specs.Values.{valuesOf}
+use Rattle.num_sort.specs.Sort.{insert, sortDesc}
 use Rattle.skills.specs.Strains.{base, closeOne, closeTo, column, current, elapsed, initialStrain, joined, multiplier, peaksTo, reached, strainAt, strainDecay, strainNext, strains, total, totalTo, walk}
 use Rattle.skills.specs.Value.{clamped, difficultyOf, difficultyValue, lerp, positives, reduced, reduction, sumFrom, weighted}
 use Rattle.text.specs.Text.{decimalText, decimalUpTo, digit, f64Text, hexText}
 use Rattle.lines.specs.Lines.{countText, numberText, numbersText, placeText, refusalText, skillsText, totalsText}
-use Rattle.opening.specs.Conditions.{firstOf, ifAccepted, bodyConditions, chartConditions}
-use Rattle.object.specs.Record.{chartRecord}
+use Rattle.chart_opening.specs.Conditions.{firstOf, ifAccepted, bodyConditions, chartConditions}
+use Rattle.osu_difficulty_object.specs.Record.{chartRecord}
 use Rattle.skills.specs.Chart.{startAt, deltaAt}
 use Rattle.calls.specs.Afresh.{freshValues, totalsOf}
 use Rattle.listing.specs.List.{afreshText, beyondText, chartText, listText, metText, openedText, placesText}

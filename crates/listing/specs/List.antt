@@ -6,12 +6,12 @@ use mathlib.Core.List.{List, [], _++_}
 use lib.Dec.{ltb}
 use lib.Ieee.{Float}
 use lib.ListN.{length}
-use Rattle.tables.specs.Parts.{row}
-use Rattle.opening.specs.Header.{layoutOf, settingsOf}
+use Rattle.num_tables.specs.Parts.{row}
+use Rattle.chart_opening.specs.Header.{layoutOf, settingsOf}
 use Rattle.skills.specs.declared.Skills.{Skills}
 use Rattle.lines.specs.Lines.{refusalText, countText, placeText, totalsText}
-use Rattle.opening.specs.Conditions.{refusalNumber, refusalPlace, firstOf, ifAccepted, chartConditions, Opens}
-use Rattle.opening.specs.declared.Refusal.{Refusal}
+use Rattle.chart_opening.specs.Conditions.{refusalNumber, refusalPlace, firstOf, ifAccepted, chartConditions, Opens}
+use Rattle.chart_opening.specs.declared.Refusal.{Refusal}
 use Rattle.calls.specs.Tables.{recordWidth, valueWidth, leastScratch}
 use Rattle.calls.specs.Afresh.{freshValues, totalsOf}
 

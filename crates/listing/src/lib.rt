@@ -2,14 +2,14 @@
 ghost use Prim.Native.Nat.{_≤_, _<_, _-_};
 ghost use lib.ListN.{length};
 ghost use Rattle.text.specs.Buffer.{Puts};
-ghost use Rattle.tables.specs.Parts.{row};
-ghost use Rattle.opening.specs.Header.{layoutOf};
+ghost use Rattle.num_tables.specs.Parts.{row};
+ghost use Rattle.chart_opening.specs.Header.{layoutOf};
 ghost use Rattle.lines.specs.Lines.{placeText, totalsText};
 ghost use Rattle.listing.specs.List.{limit, placesText, totalsAfresh, afreshText, chartText, listText, Filled, Tables, ScratchRoom};
+use chart_opening::Refusal;
+use chart_opening::Verdict;
 use editor::TotalsAnswer;
 use editor::ValuesAnswer;
-use opening::Refusal;
-use opening::Verdict;
 
 // The longest chart that is listed, in bytes.
 const LIMIT: usize = 32768;
@@ -82,10 +82,19 @@ fn put_opened(
     requires { ⌜ Filled (now chart) (now values) × ScratchRoom (length (now aim)) (length (now «aim_no_sliders»)) (length (now speed)) (length (now flashlight)) ⌝ }
     ensures { λ r. ⌜ Puts (afreshText (now (chart .entry))) (now (out .entry)) 0 (now (out .exit)) r ⌝ }
 {
-    let n = opening::layout_of(chart).n;
+    let n = chart_opening::layout_of(chart).n;
     let count = lines::put_count(out, 0, n);
     let places = put_places(out, count, chart, values, n);
-    put_totals(out, places, chart, values, aim, aim_no_sliders, speed, flashlight)
+    put_totals(
+        out,
+        places,
+        chart,
+        values,
+        aim,
+        aim_no_sliders,
+        speed,
+        flashlight,
+    )
 }
 
 // The lines of a chart within the limit.

@@ -3,11 +3,11 @@ use Prim.Native.Nat.{ℕ, zero, suc, _+_, _<_}
 use mathlib.Core.Path.{_≡_, refl, ap, _∙_}
 use mathlib.Core.List.{List}
 use native.Mathlib.Omega.{arith}
-use Rattle.objects.specs.Objects.{fieldsOf}
-use Rattle.objects.specs.declared.Layout.{Layout}
-use Rattle.entries.specs.Entries.{nestedOf, pointOf}
-use Rattle.entries.specs.declared.Nested.{Nested}
-use Rattle.entries.specs.declared.Point.{Point}
+use Rattle.chart_fields.specs.Objects.{fieldsOf}
+use Rattle.chart_fields.specs.declared.Layout.{Layout}
+use Rattle.chart_entries.specs.Entries.{nestedOf, pointOf}
+use Rattle.chart_entries.specs.declared.Nested.{Nested}
+use Rattle.chart_entries.specs.declared.Point.{Point}
 use Rattle.osu_object.specs.Osu.{listFrom, Object, objectOf, osuObject, runsOf}
 use Rattle.osu_object.specs.declared.OsuObject.{OsuObject}
 

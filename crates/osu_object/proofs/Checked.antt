@@ -9,12 +9,12 @@ use lib.Ieee as Ieee
 use lib.Ieee.{Float, binary64}
 use native.Mathlib.Omega.{arith}
 use borrow.Author.Tests.{leb-true, eqb-true, eq-eqb, not-false}
-use Rattle.objects.specs.Search.{firstBelow}
-use Rattle.floats.specs.Numbers.{f64}
-use Rattle.objects.specs.Objects.{Holds, fieldsOf, timeOk, coordinateOk, stackOk, countOk, sliderOk, kindOk, fieldsOk, badFields}
-use Rattle.objects.specs.declared.Fields.{Fields}
-use Rattle.objects.specs.declared.Layout.{Layout}
-use Rattle.entries.specs.Entries.{nestedBad, runsOk, badEntries}
+use Rattle.chart_fields.specs.Search.{firstBelow}
+use Rattle.num_floats.specs.Numbers.{f64}
+use Rattle.chart_fields.specs.Objects.{Holds, fieldsOf, timeOk, coordinateOk, stackOk, countOk, sliderOk, kindOk, fieldsOk, badFields}
+use Rattle.chart_fields.specs.declared.Fields.{Fields}
+use Rattle.chart_fields.specs.declared.Layout.{Layout}
+use Rattle.chart_entries.specs.Entries.{nestedBad, runsOk, badEntries}
 use Rattle.osu_object.specs.Osu.{kindOf, runsOf, isSlider, Slides, Ready}
 use Rattle.osu_object.specs.declared.OsuObjectKind.the-variants.{Circle, Spinner, Slider}
 

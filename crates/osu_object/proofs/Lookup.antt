@@ -5,8 +5,8 @@ use mathlib.Core.List.{List}
 use lib.ListN.{length}
 use lib.Ieee.{Float}
 use borrow.Author.Tests.{eq-eqb, ne-eqb}
-use Rattle.floats.specs.Numbers.{_⊗_}
-use Rattle.entries.specs.declared.Point.{Point}
+use Rattle.num_floats.specs.Numbers.{_⊗_}
+use Rattle.chart_entries.specs.declared.Point.{Point}
 use Rattle.osu_object.specs.Osu.{pointIn}
 use Rattle.osu_object.specs.Path.{pointPos, segmentOf, between, lookupAt, lookup, positionAt}
 

@@ -3,9 +3,9 @@ use Prim.Native.Nat.{ℕ, _<_}
 use mathlib.Core.Path.{_≡_, sym, ap, subst, _∙_}
 use mathlib.Core.Bool.{true, false}
 use mathlib.Core.List.{List}
-use Rattle.objects.specs.Objects.{fieldsOf}
-use Rattle.objects.specs.declared.Fields.{Fields}
-use Rattle.objects.specs.declared.Layout.{Layout}
+use Rattle.chart_fields.specs.Objects.{fieldsOf}
+use Rattle.chart_fields.specs.declared.Fields.{Fields}
+use Rattle.chart_fields.specs.declared.Layout.{Layout}
 use Rattle.osu_object.specs.Osu.{objectOf, osuObject, kindOf, runsOf, isSlider, isSpinner, Slides, Ready, nestedList, stackedPos, stackedEndPos, repeatCount}
 use Rattle.osu_object.specs.Base.{baseOf, endOf, repeatsOf}
 use Rattle.osu_object.specs.declared.OsuObject.{OsuObject}

@@ -2,7 +2,7 @@
 use Prim.Native.Nat.{ℕ}
 use mathlib.Core.Bool.{cond}
 use Rattle.osu_object.specs.Osu.{Object, isSlider, isSpinner, stackedPos, stackedEndPos, repeatCount}
-use Rattle.pos.specs.declared.Pos.{Pos}
+use Rattle.osu_pos.specs.declared.Pos.{Pos}
 use Rattle.osu_object.specs.declared.BaseObject.{BaseObject}
 
 unfoldable pub baseOf : Object → BaseObject

@@ -8,14 +8,14 @@ use lib.ListN.{getD, length}
 use lib.IntN.{pos}
 use lib.Ieee as Ieee
 use lib.Ieee.{nan, binary64}
-use Rattle.objects.specs.Objects.{Holds, fieldsOf}
-use Rattle.objects.specs.declared.Fields.{Fields}
-use Rattle.objects.specs.declared.Layout.{Layout}
-use Rattle.entries.specs.Entries.{nestedOf, pointOf}
-use Rattle.entries.specs.declared.Nested.{Nested}
-use Rattle.entries.specs.declared.Point.{Point}
-use Rattle.pos.specs.declared.Pos.{Pos}
-use Rattle.pos.specs.Pos.{_+ₚ_}
+use Rattle.chart_fields.specs.Objects.{Holds, fieldsOf}
+use Rattle.chart_fields.specs.declared.Fields.{Fields}
+use Rattle.chart_fields.specs.declared.Layout.{Layout}
+use Rattle.chart_entries.specs.Entries.{nestedOf, pointOf}
+use Rattle.chart_entries.specs.declared.Nested.{Nested}
+use Rattle.chart_entries.specs.declared.Point.{Point}
+use Rattle.osu_pos.specs.declared.Pos.{Pos}
+use Rattle.osu_pos.specs.Pos.{_+ₚ_}
 use Rattle.osu_object.specs.declared.OsuObject.{OsuObject}
 use Rattle.osu_object.specs.declared.OsuObjectKind.{OsuObjectKind}
 use Rattle.osu_object.specs.declared.OsuObjectKind.the-variants.{Circle, Spinner, Slider}

@@ -6,12 +6,12 @@ use lib.Dec.{eqb}
 use lib.ListN.{length}
 use lib.Ieee as Ieee
 use lib.Ieee.{Float, binary32}
-use Rattle.floats.specs.Numbers.{_⊖_, _⊗_, _⊘_}
-use Rattle.whole.specs.Narrow.{narrow}
-use Rattle.objects.specs.Search.{firstBelow}
-use Rattle.entries.specs.declared.Point.{Point}
-use Rattle.pos.specs.declared.Pos.{Pos}
-use Rattle.pos.specs.Pos.{_+ₚ_, _-ₚ_, _*ₚ_}
+use Rattle.num_floats.specs.Numbers.{_⊖_, _⊗_, _⊘_}
+use Rattle.num_whole.specs.Narrow.{narrow}
+use Rattle.chart_fields.specs.Search.{firstBelow}
+use Rattle.chart_entries.specs.declared.Point.{Point}
+use Rattle.osu_pos.specs.declared.Pos.{Pos}
+use Rattle.osu_pos.specs.Pos.{_+ₚ_, _-ₚ_, _*ₚ_}
 use Rattle.osu_object.specs.Osu.{pointIn}
 
 abbrev pub pointPos : Point → Pos

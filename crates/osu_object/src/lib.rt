@@ -3,16 +3,16 @@ ghost use mathlib.Core.Path.{_≡_};
 ghost use mathlib.Core.Bool.{true};
 ghost use Prim.Native.Nat.{_+_, _-_, _<_};
 ghost use lib.ListN.{length};
-ghost use Rattle.objects.specs.Objects.{Holds};
+ghost use Rattle.chart_fields.specs.Objects.{Holds};
 ghost use Rattle.osu_object.specs.Osu.{kindOf, osuObject, runsOf, objectOf, stackedPos, isSlider, isSpinner};
 ghost use Rattle.osu_object.specs.Osu.{Slides, Ready, nestedList, pointList, nestedIn, pointIn, isRepeat, repeatCount, tailOf, endPos, stackedEndPos};
 ghost use Rattle.osu_object.specs.Base.{baseOf, endOf, repeatsOf};
 ghost use Rattle.osu_object.specs.Path.{reaches, segmentOf, between, positionAt};
-use entries::Nested;
-use entries::Point;
-use objects::Fields;
-use objects::Layout;
-use pos::Pos;
+use chart_entries::Nested;
+use chart_entries::Point;
+use chart_fields::Fields;
+use chart_fields::Layout;
+use osu_pos::Pos;
 
 // A slider's kind carries its end time and span count.
 pub enum OsuObjectKind {
@@ -41,10 +41,10 @@ pub struct Runs {
 fn kind_of(f: Fields) -> OsuObjectKind
     ensures { λ r. ⌜ r ≡ kindOf f ⌝ }
 {
-    if f.kind == objects::CIRCLE {
+    if f.kind == chart_fields::CIRCLE {
         return OsuObjectKind::Circle;
     }
-    if f.kind == objects::SLIDER {
+    if f.kind == chart_fields::SLIDER {
         return OsuObjectKind::Slider(f.end, f.spans as f64);
     }
     OsuObjectKind::Spinner
@@ -143,7 +143,7 @@ pub fn nested(chart: &[u8], lay: Layout, r: Runs, k: usize) -> Nested
     requires { ⌜ Slides (now chart) lay r × (k < r .«nested_count») ⌝ }
     ensures { λ e. ⌜ e ≡ nestedIn (nestedList (now (chart .entry)) lay r) k ⌝ }
 {
-    entries::nested_of(chart, lay, r.nested_first + k)
+    chart_entries::nested_of(chart, lay, r.nested_first + k)
 }
 
 // Point k of a slider's path.
@@ -151,7 +151,7 @@ pub fn point(chart: &[u8], lay: Layout, r: Runs, k: usize) -> Point
     requires { ⌜ Slides (now chart) lay r × (k < r .«point_count») ⌝ }
     ensures { λ p. ⌜ p ≡ pointIn (pointList (now (chart .entry)) lay r) k ⌝ }
 {
-    entries::point_of(chart, lay, r.point_first + k)
+    chart_entries::point_of(chart, lay, r.point_first + k)
 }
 
 // The position of the tail, which is the last entry.
@@ -169,7 +169,7 @@ fn is_repeat(chart: &[u8], lay: Layout, r: Runs, k: usize) -> bool
     ensures { λ b. ⌜ b ≡ isRepeat (nestedList (now (chart .entry)) lay r) k ⌝ }
 {
     let e = nested(chart, lay, r, k);
-    e.kind == entries::REPEAT
+    e.kind == chart_entries::REPEAT
 }
 
 // How many nested entries are repeats.
@@ -219,7 +219,7 @@ fn on_line(a: Point, b: Point, d: f64) -> Pos
 {
     let from = Pos { x: a.x, y: a.y };
     let to = Pos { x: b.x, y: b.y };
-    let w = whole::f64_to_f32((d - a.length) / (b.length - a.length));
+    let w = num_whole::f64_to_f32((d - a.length) / (b.length - a.length));
     from.add(to.sub(from).scaled(w))
 }
 
@@ -252,7 +252,7 @@ pub fn base_at(chart: &[u8], lay: Layout, j: usize) -> BaseObject
     requires { ⌜ Holds (now chart) lay × (j < lay .n) ⌝ }
     ensures { λ b. ⌜ b ≡ baseOf (objectOf (now (chart .entry)) lay j) ⌝ }
 {
-    let o = OsuObject::new(objects::fields_of(chart, lay, j));
+    let o = OsuObject::new(chart_fields::fields_of(chart, lay, j));
     BaseObject {
         slider: o.is_slider(),
         spinner: o.is_spinner(),
@@ -266,7 +266,7 @@ pub fn end_at(chart: &[u8], lay: Layout, j: usize) -> Pos
     requires { ⌜ Ready (now chart) lay × (j < lay .n) ⌝ }
     ensures { λ p. ⌜ p ≡ endOf (objectOf (now (chart .entry)) lay j) ⌝ }
 {
-    let f = objects::fields_of(chart, lay, j);
+    let f = chart_fields::fields_of(chart, lay, j);
     let o = OsuObject::new(f);
     o.stacked_end_pos(chart, lay, Runs::new(f))
 }
@@ -276,7 +276,7 @@ pub fn repeats_at(chart: &[u8], lay: Layout, j: usize) -> u32
     requires { ⌜ Ready (now chart) lay × (j < lay .n) ⌝ }
     ensures { λ n. ⌜ n ≡ repeatsOf (objectOf (now (chart .entry)) lay j) ⌝ }
 {
-    let f = objects::fields_of(chart, lay, j);
+    let f = chart_fields::fields_of(chart, lay, j);
     let o = OsuObject::new(f);
     if o.is_slider() {
         return repeat_count(chart, lay, Runs::new(f));

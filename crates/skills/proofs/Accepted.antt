@@ -7,15 +7,15 @@ use mathlib.Core.List.{List}
 use lib.Dec.{T}
 use lib.Ieee.{Float, lt, le}
 use borrow.Author.Tests.{lt-ltb, le-leb, not-false}
-use Rattle.floats.specs.Numbers.{_⊖_, _⊘_, zero64}
-use Rattle.objects.specs.Objects.{fieldsOf, fieldsOk, badFields, falls}
-use Rattle.objects.specs.declared.Fields.{Fields}
-use Rattle.objects.specs.declared.Layout.{Layout}
-use Rattle.opening.specs.Header.{layoutOf, settingsOf, settingsOk, tooLong}
-use Rattle.opening.specs.Conditions.{Opens}
-use Rattle.opening.specs.Accepted.{Clean, clean-body, settings-ok, body-ok}
-use Rattle.opening.specs.declared.Settings.{Settings}
-use Rattle.opening.proofs.Header.{both}
+use Rattle.num_floats.specs.Numbers.{_⊖_, _⊘_, zero64}
+use Rattle.chart_fields.specs.Objects.{fieldsOf, fieldsOk, badFields, falls}
+use Rattle.chart_fields.specs.declared.Fields.{Fields}
+use Rattle.chart_fields.specs.declared.Layout.{Layout}
+use Rattle.chart_opening.specs.Header.{layoutOf, settingsOf, settingsOk, tooLong}
+use Rattle.chart_opening.specs.Conditions.{Opens}
+use Rattle.chart_opening.specs.Accepted.{Clean, clean-body, settings-ok, body-ok}
+use Rattle.chart_opening.specs.declared.Settings.{Settings}
+use Rattle.chart_opening.proofs.Header.{both}
 use Rattle.skills.proofs.Span.{longest}
 use Rattle.skills.proofs.Times.{latest, slowest, fastest, Passes}
 

@@ -8,7 +8,7 @@ use mathlib.Core.List.{List, [], _∷_, _++_}
 use lib.ListN.{length, take, set, length-set}
 use lib.Seq.{take-suc-set}
 use lib.Ieee.{Float, lt}
-use Rattle.floats.specs.Numbers.{_⊕_}
+use Rattle.num_floats.specs.Numbers.{_⊕_}
 use Rattle.skills.specs.declared.Sections.{Sections}
 use Rattle.skills.specs.Strains.{sectionLength, room, Walk, closeOne, closeTo}
 use Rattle.skills.specs.Shown.{shown}

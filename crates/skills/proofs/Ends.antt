@@ -10,8 +10,8 @@ use lib.ListN.{length, length-append}
 use lib.Ieee as Ieee
 use lib.Ieee.{Float, binary64, lt, round}
 use lib.Ieee.Back.{round-whole}
-use Rattle.floats.specs.Numbers.{_⊕_}
-use Rattle.whole.specs.WholeValues.{add-at}
+use Rattle.num_floats.specs.Numbers.{_⊕_}
+use Rattle.num_whole.specs.WholeValues.{add-at}
 use Rattle.skills.specs.declared.Skill.{Skill}
 use Rattle.skills.specs.Strains.{sectionLength, initialStrain, room, Walk, firstEnd, closeOne, closeTo, reached, walk}
 

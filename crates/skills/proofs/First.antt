@@ -14,10 +14,10 @@ use lib.Ieee.Back.{round-whole}
 use lib.Ieee.Order.{round-mono}
 use lib.Ieee.Scale.{round-same}
 use lib.Ieee.Fits.{down-pos, round-is, and-l}
-use Rattle.floats.specs.Numbers.{_⊗_}
-use Rattle.whole.specs.Whole.{above, ceilOf}
-use Rattle.whole.specs.Whole.{clear}
-use Rattle.whole.specs.WholeValues.{whole-lt}
+use Rattle.num_floats.specs.Numbers.{_⊗_}
+use Rattle.num_whole.specs.Whole.{above, ceilOf}
+use Rattle.num_whole.specs.Whole.{clear}
+use Rattle.num_whole.specs.WholeValues.{whole-lt}
 use Rattle.skills.specs.Strains.{sectionLength, firstEnd}
 use Rattle.skills.proofs.Ends.{whole, EndAt, end-at}
 

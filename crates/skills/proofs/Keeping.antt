@@ -8,8 +8,8 @@ use mathlib.Core.List.{List, [], _∷_, _++_, append-assoc, append-nil}
 use lib.ListN.{length, take, drop, getD, set, length-set, drop-of-length-le}
 use lib.Seq.{take-suc-set, drop-set-lt, drop-cons}
 use lib.Ieee.{Float, nan, lt}
-use Rattle.floats.specs.Numbers.{zero64}
-use Rattle.sort.specs.Sort.{AllPos}
+use Rattle.num_floats.specs.Numbers.{zero64}
+use Rattle.num_sort.specs.Sort.{AllPos}
 use Rattle.skills.specs.Value.{positives}
 
 pub all-positives : (xs : List Float) → AllPos (positives xs)

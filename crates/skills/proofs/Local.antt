@@ -5,8 +5,8 @@ use Prim.Native.Nat.{ℕ, zero, suc, _-_, _≤_, _<_}
 use native.Mathlib.Omega.{arith}
 use lib.Ieee.{Float}
 use lib.ListN.{length}
-use Rattle.floats.specs.Numbers.{zero64}
-use Rattle.floats.specs.Compare.{maxOf}
+use Rattle.num_floats.specs.Numbers.{zero64}
+use Rattle.num_floats.specs.Compare.{maxOf}
 use Rattle.skills.specs.declared.Skill.{Skill}
 use Rattle.skills.specs.declared.Skill.the-variants.{Aim, AimNoSliders, Speed, Flashlight}
 use Rattle.skills.specs.Value.{difficultyOf}

@@ -8,11 +8,11 @@ use mathlib.Core.List.{List, [], _∷_}
 use lib.ListN.{length, take, set, length-set}
 use lib.Seq.{take-suc-set, length-take-le}
 use lib.Ieee.{Float}
-use Rattle.floats.specs.Numbers.{_⊖_, _⊘_, zero64}
-use Rattle.objects.specs.Objects.{fieldsOf}
-use Rattle.objects.specs.declared.Layout.{Layout}
-use Rattle.tables.specs.Parts.{row, put, fill}
-use Rattle.tables.specs.Rows.{sets-put, fill-none, fill-step}
+use Rattle.num_floats.specs.Numbers.{_⊖_, _⊘_, zero64}
+use Rattle.chart_fields.specs.Objects.{fieldsOf}
+use Rattle.chart_fields.specs.declared.Layout.{Layout}
+use Rattle.num_tables.specs.Parts.{row, put, fill}
+use Rattle.num_tables.specs.Rows.{sets-put, fill-none, fill-step}
 use Rattle.skills.specs.declared.Sections.{Sections}
 use Rattle.skills.specs.declared.Skill.{Skill}
 use Rattle.skills.specs.Strains.{strainNext, joined, initialStrain, room, Walk, closeTo, join, closed, reached, walk, peaksTo, current, strainAt}

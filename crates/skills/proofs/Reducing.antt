@@ -8,7 +8,7 @@ use lib.ListN.{length, take, drop, getD, set, length-set, drop-of-length-le, tak
 use lib.Seq.{take-suc-set, drop-set-lt, drop-cons}
 use lib.Ieee.{Float, nan}
 use borrow.Author.Tests.{lt-ltb, le-ltb}
-use Rattle.floats.specs.Numbers.{_⊗_}
+use Rattle.num_floats.specs.Numbers.{_⊗_}
 use Rattle.skills.specs.Value.{reduced, reduction}
 
 -- from `count` on nothing changes

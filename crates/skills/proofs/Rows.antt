@@ -4,7 +4,7 @@ use mathlib.Core.Path.{_≡_, _∙_}
 use mathlib.Core.List.{List}
 use lib.ListN.{drop, getD}
 use lib.Seq.{getD-take, getD-drop}
-use Rattle.tables.specs.Parts.{part, row}
+use Rattle.num_tables.specs.Parts.{part, row}
 
 pub row-at : {X : Type 0} (w j c : ℕ) (t : List X) (d : X) → c < w → getD (row w t j) c d ≡ getD t (w * j + c) d
 unfolding row part

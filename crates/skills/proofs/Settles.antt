@@ -6,9 +6,9 @@ use mathlib.Core.Bool.{Bool, true, false, cond}
 use mathlib.Core.List.{List}
 use lib.ListN.{length}
 use lib.Ieee.{Float, lt}
-use Rattle.objects.specs.Objects.{fieldsOf}
-use Rattle.opening.specs.Header.{layoutOf, settingsOf}
-use Rattle.opening.specs.Conditions.{Opens}
+use Rattle.chart_fields.specs.Objects.{fieldsOf}
+use Rattle.chart_opening.specs.Header.{layoutOf, settingsOf}
+use Rattle.chart_opening.specs.Conditions.{Opens}
 use Rattle.skills.specs.declared.Skill.{Skill}
 use Rattle.skills.specs.Strains.{initialStrain, room, Walk, closeOne, closeTo, reached, walk}
 use Rattle.skills.specs.Chart.{startAt}

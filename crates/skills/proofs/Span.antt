@@ -16,8 +16,8 @@ use lib.Ieee.Order.{round-mono}
 use lib.Ieee.Fits.{down-pos}
 use lib.Ieee.Positive.{above-of-le, le→cross}
 use borrow.Author.Tests.{lt-ltb}
-use Rattle.floats.specs.Numbers.{f64}
-use Rattle.whole.specs.WholeValues.{whole-lt, whole-ge}
+use Rattle.num_floats.specs.Numbers.{f64}
+use Rattle.num_whole.specs.WholeValues.{whole-lt, whole-ge}
 use Rattle.skills.proofs.Ends.{whole}
 
 -- 3,000,000

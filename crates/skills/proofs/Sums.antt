@@ -6,7 +6,7 @@ use mathlib.Core.List.{List, []}
 use lib.ListN.{length, drop, getD, drop-of-length-le}
 use lib.Seq.{drop-cons}
 use lib.Ieee.{Float, nan}
-use Rattle.floats.specs.Numbers.{_⊕_, _⊗_}
+use Rattle.num_floats.specs.Numbers.{_⊕_, _⊗_}
 use Rattle.skills.specs.Value.{decayWeight, weighted, sumFrom}
 
 module _ (a : List Float) (i : ℕ) where

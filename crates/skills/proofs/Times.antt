@@ -16,9 +16,9 @@ use lib.Ieee.Scale.{round-same}
 use lib.Ieee.Fits.{down-pos, up-pos, and-l}
 use lib.Ieee.Positive.{num, den, den-pos, through, above-of-le}
 use borrow.Author.Tests.{ltb-false, le-ltb, ne-eqb}
-use Rattle.floats.specs.Numbers.{f64, _⊖_, _⊘_, zero64}
-use Rattle.floats.specs.Literals.{zero-is}
-use Rattle.whole.specs.WholeValues.{whole-lt, whole-ge}
+use Rattle.num_floats.specs.Numbers.{f64, _⊖_, _⊘_, zero64}
+use Rattle.num_floats.specs.Literals.{zero-is}
+use Rattle.num_whole.specs.WholeValues.{whole-lt, whole-ge}
 use Rattle.skills.specs.declared.Skill.{Skill}
 use Rattle.skills.specs.Strains.{firstEnd, reached, walk}
 use Rattle.skills.proofs.Ends.{whole, EndAt, settled-at}

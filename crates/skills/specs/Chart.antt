@@ -3,10 +3,10 @@ use mathlib.Core.List.{List, [], _∷_}
 use Prim.Native.Nat.{ℕ, zero, suc, _-_, _*_, _≤_}
 use lib.ListN.{length}
 use lib.Ieee.{Float}
-use Rattle.floats.specs.Numbers.{_⊖_, _⊘_, zero64}
-use Rattle.objects.specs.Objects.{Holds, fieldsOf}
-use Rattle.objects.specs.declared.Layout.{Layout}
-use Rattle.tables.specs.Parts.{row}
+use Rattle.num_floats.specs.Numbers.{_⊖_, _⊘_, zero64}
+use Rattle.chart_fields.specs.Objects.{Holds, fieldsOf}
+use Rattle.chart_fields.specs.declared.Layout.{Layout}
+use Rattle.num_tables.specs.Parts.{row}
 use Rattle.skills.specs.declared.Skill.{Skill}
 use Rattle.skills.specs.declared.Skills.{Skills}
 use Rattle.skills.specs.Strains.{room, peaksTo, strainAt, totalTo, total}

@@ -3,8 +3,8 @@ use mathlib.Core.List.{List}
 use Prim.Native.Nat.{_-_}
 use lib.ListN.{take}
 use lib.Ieee.{Float}
-use Rattle.floats.specs.Numbers.{zero64}
-use Rattle.floats.specs.Compare.{maxOf}
+use Rattle.num_floats.specs.Numbers.{zero64}
+use Rattle.num_floats.specs.Compare.{maxOf}
 use Rattle.skills.specs.declared.Sections.{Sections}
 use Rattle.skills.specs.declared.Skill.{Skill}
 use Rattle.skills.specs.Strains.{Walk, room, firstEnd, initialStrain, closeTo}

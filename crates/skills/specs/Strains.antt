@@ -6,10 +6,10 @@ use Prim.Native.Nat.{ℕ, zero, suc, _-_}
 use lib.Ieee as Ieee
 use lib.Ieee.{Float, nan, binary64}
 use lib.ListN.{length, getD}
-use Rattle.floats.specs.Numbers.{f64, _⊕_, _⊖_, _⊗_, _⊘_, zero64}
-use Rattle.floats.specs.Compare.{maxOf}
-use Rattle.whole.specs.Whole.{ceilOf}
-use Rattle.elementary.specs.Power.{powerOf}
+use Rattle.num_floats.specs.Numbers.{f64, _⊕_, _⊖_, _⊗_, _⊘_, zero64}
+use Rattle.num_floats.specs.Compare.{maxOf}
+use Rattle.num_whole.specs.Whole.{ceilOf}
+use Rattle.num_elementary.specs.Power.{powerOf}
 use Rattle.skills.specs.declared.Skill.{Skill}
 use Rattle.skills.specs.declared.Skill.the-variants.{Aim, AimNoSliders, Speed, Flashlight}
 use Rattle.skills.specs.declared.Skills.{Skills}

@@ -7,10 +7,10 @@ use lib.Dec.{ltb}
 use lib.IntN.{pos}
 use lib.Ieee as Ieee
 use lib.Ieee.{Float, binary32, ofInt}
-use Rattle.floats.specs.Numbers.{f64, _⊕_, _⊖_, _⊗_, zero64, one64}
-use Rattle.floats.specs.Compare.{clampOf}
-use Rattle.elementary.specs.Power.{log10Of}
-use Rattle.sort.specs.Sort.{sortDesc}
+use Rattle.num_floats.specs.Numbers.{f64, _⊕_, _⊖_, _⊗_, zero64, one64}
+use Rattle.num_floats.specs.Compare.{clampOf}
+use Rattle.num_elementary.specs.Power.{log10Of}
+use Rattle.num_sort.specs.Sort.{sortDesc}
 use Rattle.skills.specs.declared.Skill.{Skill}
 use Rattle.skills.specs.declared.Skill.the-variants.{Aim, AimNoSliders, Speed, Flashlight}
 

@@ -2,9 +2,9 @@
 ghost use mathlib.Core.Path.{_≡_};
 ghost use Prim.Native.Nat.{_+_, _-_, _*_, _≤_, _<_};
 ghost use lib.ListN.{length, take, replicate};
-ghost use Rattle.floats.specs.Numbers.{zero64};
-ghost use Rattle.objects.specs.Objects.{Holds, fieldsOf};
-ghost use Rattle.tables.specs.Parts.{row, fill};
+ghost use Rattle.num_floats.specs.Numbers.{zero64};
+ghost use Rattle.chart_fields.specs.Objects.{Holds, fieldsOf};
+ghost use Rattle.num_tables.specs.Parts.{row, fill};
 ghost use Rattle.skills.specs.Strains as strains;
 ghost use Rattle.skills.specs.Chart.{Readable, Roomy, strainRow, peaksOf, totalOf, totalsOf};
 ghost use Rattle.skills.specs.Shown.{shown, opened, closed, joined};
@@ -14,7 +14,7 @@ mod flashlight;
 mod speed;
 mod strain;
 
-use objects::Layout;
+use chart_fields::Layout;
 
 // The four skills.
 pub enum Skill {
@@ -98,7 +98,7 @@ fn elapsed(skill: Skill, delta: f64) -> f64
     match skill {
         Skill::Aim => delta,
         Skill::AimNoSliders => delta,
-        Skill::Speed => floats::max(delta, MIN_DELTA_TIME),
+        Skill::Speed => num_floats::max(delta, MIN_DELTA_TIME),
         Skill::Flashlight => delta,
     }
 }
@@ -107,7 +107,7 @@ fn elapsed(skill: Skill, delta: f64) -> f64
 fn strain_decay(ms: f64, base: f64) -> f64
     ensures { λ r. ⌜ r ≡ strains.strainDecay ms base ⌝ }
 {
-    elementary::power(base, ms / MS_PER_SECOND)
+    num_elementary::power(base, ms / MS_PER_SECOND)
 }
 
 // The Rust's `current_strain` at place j, after `current` at the place before.
@@ -175,7 +175,7 @@ fn open_first(start: f64) -> Sections
     Sections {
         count: 0,
         peak: 0.0,
-        end: whole::ceil(start / SECTION_LENGTH) * SECTION_LENGTH,
+        end: num_whole::ceil(start / SECTION_LENGTH) * SECTION_LENGTH,
     }
 }
 
@@ -185,7 +185,7 @@ fn join(s: Sections, strain: f64) -> Sections
 {
     Sections {
         count: s.count,
-        peak: floats::max(s.peak, strain),
+        peak: num_floats::max(s.peak, strain),
         end: s.end,
     }
 }
@@ -195,7 +195,7 @@ fn raw_start(chart: &[u8], lay: Layout, j: usize) -> f64
     requires { ⌜ Holds (now chart) lay × (j < lay .n) ⌝ }
     ensures { λ r. ⌜ r ≡ fieldsOf (now (chart .entry)) lay j .start ⌝ }
 {
-    let f = objects::fields_of(chart, lay, j);
+    let f = chart_fields::fields_of(chart, lay, j);
     f.start
 }
 

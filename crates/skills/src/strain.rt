@@ -2,8 +2,8 @@
 ghost use mathlib.Core.Path.{_≡_};
 ghost use Prim.Native.Nat.{_≤_, _<_};
 ghost use lib.ListN.{length, take};
-ghost use Rattle.floats.specs.Numbers.{zero64, one64};
-ghost use Rattle.sort.specs.Sort.{AllPos};
+ghost use Rattle.num_floats.specs.Numbers.{zero64, one64};
+ghost use Rattle.num_sort.specs.Sort.{AllPos};
 ghost use Rattle.skills.specs.Value as value;
 use crate::Skill;
 
@@ -25,7 +25,7 @@ fn clamped(i: usize, count: usize) -> f64
     ensures { λ r. ⌜ r ≡ value.clamped i count ⌝ }
 {
     let quotient = (i as u16 as f32) / (count as u16 as f32);
-    floats::clamp(floats::widen(quotient), 0.0, 1.0)
+    num_floats::clamp(num_floats::widen(quotient), 0.0, 1.0)
 }
 
 // What the peak at place i of the largest `count` is multiplied by.
@@ -33,7 +33,7 @@ fn reduction(i: usize, count: usize) -> f64
     requires { ⌜ (i < 65536) × (count < 65536) ⌝ }
     ensures { λ r. ⌜ r ≡ value.reduction i count ⌝ }
 {
-    let scale = elementary::log10(lerp(1.0, 10.0, clamped(i, count)));
+    let scale = num_elementary::log10(lerp(1.0, 10.0, clamped(i, count)));
     lerp(REDUCED_STRAIN_BASELINE, 1.0, scale)
 }
 
@@ -104,9 +104,9 @@ fn value_of_positive(a: &mut [f64], tmp: &mut [f64], count: usize) -> f64
     requires { ⌜ (AllPos (now a)) × (length (now a) ≤ length (now tmp)) × (count < 65536) ⌝ }
     ensures { λ r. ⌜ r ≡ value.positiveValue count (now (a .entry)) ⌝ }
 {
-    sort::merge_sort(a, tmp);
+    num_sort::merge_sort(a, tmp);
     reduce(a, count);
-    sort::insertion_sort(a);
+    num_sort::insertion_sort(a);
     weighted_sum(a)
 }
 

@@ -8,13 +8,13 @@ use lib.Dec.{ltb}
 use lib.Ieee.{Float}
 use lib.ListN.{length}
 use borrow.Author.Tests.{lt-ltb, le-ltb, ltb-false}
-use Rattle.tables.specs.Parts.{put}
-use Rattle.opening.specs.Conditions.{refusalNumber, ifAccepted, openVerdict}
-use Rattle.opening.specs.Accepted.{refuses}
-use Rattle.opening.specs.declared.Refusal.{Refusal}
-use Rattle.opening.specs.declared.Refusal.the-variants.{Header, Setting, Object, Entries, Order, Length, Table, Place}
-use Rattle.opening.specs.declared.Verdict.{Verdict}
-use Rattle.opening.specs.declared.Verdict.the-variants.{Accepted, Refused}
+use Rattle.num_tables.specs.Parts.{put}
+use Rattle.chart_opening.specs.Conditions.{refusalNumber, ifAccepted, openVerdict}
+use Rattle.chart_opening.specs.Accepted.{refuses}
+use Rattle.chart_opening.specs.declared.Refusal.{Refusal}
+use Rattle.chart_opening.specs.declared.Refusal.the-variants.{Header, Setting, Object, Entries, Order, Length, Table, Place}
+use Rattle.chart_opening.specs.declared.Verdict.{Verdict}
+use Rattle.chart_opening.specs.declared.Verdict.the-variants.{Accepted, Refused}
 use Rattle.skills.specs.declared.Skills.{Skills}
 use Rattle.calls.specs.Tables.{valueEntries}
 use Rattle.calls.specs.Afresh.{Record, totals, totalsAre}

@@ -2,9 +2,9 @@
 use Prim.Native.Nat.{ℕ, _+_, _*_, _/_, _%_, _≤_}
 use mathlib.Core.Path.{_≡_}
 use native.Mathlib.Omega.{arith}
-use Rattle.objects.specs.Limits.{mostObjects}
-use Rattle.opening.specs.Conditions.{refusalNumber, refusalPlace}
-use Rattle.opening.specs.declared.Refusal.{Refusal}
+use Rattle.chart_fields.specs.Limits.{mostObjects}
+use Rattle.chart_opening.specs.Conditions.{refusalNumber, refusalPlace}
+use Rattle.chart_opening.specs.declared.Refusal.{Refusal}
 use Rattle.station.specs.Codes.{placeSpan, codeOf}
 
 pub told : (r : Refusal) → refusalPlace r ≤ mostObjects → (codeOf r / placeSpan ≡ refusalNumber r) × (codeOf r % placeSpan ≡ refusalPlace r)

@@ -5,13 +5,13 @@ use Prim.Native.Nat.{ℕ, _+_, _*_, _%_}
 use lib.Dec.{ltb}
 use lib.Ieee.{Float}
 use lib.ListN.{length}
-use Rattle.opening.specs.Header.{headerOk}
-use Rattle.opening.specs.Conditions.{refusalNumber, refusalPlace, ifAccepted}
-use Rattle.opening.specs.declared.Refusal.{Refusal}
-use Rattle.opening.specs.declared.Refusal.the-variants.{Header, Table}
-use Rattle.opening.specs.declared.Verdict.{Verdict}
-use Rattle.opening.specs.declared.Verdict.the-variants.{Accepted, Refused}
-use Rattle.records.specs.Rows.{rowOf}
+use Rattle.chart_opening.specs.Header.{headerOk}
+use Rattle.chart_opening.specs.Conditions.{refusalNumber, refusalPlace, ifAccepted}
+use Rattle.chart_opening.specs.declared.Refusal.{Refusal}
+use Rattle.chart_opening.specs.declared.Refusal.the-variants.{Header, Table}
+use Rattle.chart_opening.specs.declared.Verdict.{Verdict}
+use Rattle.chart_opening.specs.declared.Verdict.the-variants.{Accepted, Refused}
+use Rattle.osu_records.specs.Rows.{rowOf}
 use Rattle.skills.specs.declared.Skills.{Skills}
 use Rattle.calls.specs.Tables.{valueEntries}
 use Rattle.calls.specs.Afresh.{totals, Amount, totalsAre}

@@ -5,18 +5,18 @@ ghost use mathlib.Core.Bool.{true};
 ghost use mathlib.Core.List.{[]};
 ghost use Prim.Native.Nat.{_≤_};
 ghost use lib.ListN.{length};
-ghost use Rattle.tables.specs.Parts.{put};
-ghost use Rattle.opening.specs.declared.Verdict.the-variants.{Refused};
+ghost use Rattle.num_tables.specs.Parts.{put};
+ghost use Rattle.chart_opening.specs.declared.Verdict.the-variants.{Refused};
 ghost use Rattle.calls.specs.Conditions as ops;
 ghost use Rattle.calls.specs.Conditions.{figureVerdict};
 ghost use Rattle.calls.specs.Calls.{state, result, openAnswer, openLeaves, outcome};
 ghost use Rattle.editor.specs.Answers.{recordAnswer, valuesAnswer, totalsAnswer, scratchOf};
 ghost use Rattle.station.specs.Codes.{codeOf, verdictCode, answerCode, numbersOf, totalsRow, totalsWidth, noRoom, readInto, totalsInto, scratchInto};
+use chart_opening::Refusal;
+use chart_opening::Verdict;
 use editor::RecordAnswer;
 use editor::TotalsAnswer;
 use editor::ValuesAnswer;
-use opening::Refusal;
-use opening::Verdict;
 use skills::Skills;
 
 // How many places a code tells apart, and how many totals there are.
@@ -69,7 +69,7 @@ pub extern "C" fn difficulty_replace(
 fn no_room(chart: &[u8]) -> Refusal
     ensures { λ r. ⌜ r ≡ noRoom (now (chart .entry)) ⌝ }
 {
-    if opening::header_ok(chart) {
+    if chart_opening::header_ok(chart) {
         return Refusal::Table;
     }
     Refusal::Header
@@ -103,7 +103,7 @@ pub extern "C" fn difficulty_read_record(
     match record_into(chart, records, place, out.len()) {
         RecordAnswer::Refused(r) => code(r),
         RecordAnswer::Record(x) => {
-            records::put_record(out, 0, x);
+            osu_records::put_record(out, 0, x);
             0
         }
     }
@@ -137,7 +137,7 @@ pub extern "C" fn difficulty_read_values(
     match values_into(chart, values, place, out.len()) {
         ValuesAnswer::Refused(r) => code(r),
         ValuesAnswer::Values(v) => {
-            evaluators::put_values(out, 0, v);
+            eval_values::put_values(out, 0, v);
             0
         }
     }
@@ -147,7 +147,7 @@ pub extern "C" fn difficulty_read_values(
 fn refuse_totals(chart: &[u8], entries: usize) -> Refusal
     ensures { λ r. ⌜ Refused r ≡ figureVerdict (now (chart .entry)) entries true ⌝ }
 {
-    match opening::check(chart, entries) {
+    match chart_opening::check(chart, entries) {
         Verdict::Refused(r) => r,
         Verdict::Accepted => Refusal::Table,
     }

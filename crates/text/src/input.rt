@@ -8,7 +8,7 @@ pub fn next_word() -> usize {
     if io::read_full(0, &mut word[..]) < 4 {
         return 0xFFFF_FFFF;
     }
-    floats::count_at(&word[..], 0)
+    num_floats::count_at(&word[..], 0)
 }
 
 // The next u32, at most this.
@@ -23,7 +23,7 @@ pub fn next_length(most: usize) -> usize
 pub fn next_long() -> u64 {
     let mut word = [0u8; 8];
     io::read_full(0, &mut word[..]);
-    floats::u64_at(&word[..], 0)
+    num_floats::u64_at(&word[..], 0)
 }
 
 // Reads a length and as many bytes into the buffer; the length, or one more than the buffer's where the input ends or there are more.
@@ -41,7 +41,7 @@ fn decode(bytes: &[u8], n: usize, table: &mut [f64])
 {
     let mut i = 0;
     while i < n {
-        table[i] = floats::f64_at(bytes, 8 * i);
+        table[i] = num_floats::f64_at(bytes, 8 * i);
         i += 1;
     }
 }

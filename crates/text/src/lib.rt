@@ -84,14 +84,14 @@ pub fn put_hex32(out: &mut [u8], at: usize, v: u32) -> usize
 pub fn put_f64(out: &mut [u8], at: usize, x: f64) -> usize
     ensures { λ r. ⌜ Puts (Text.f64Text x) (now (out .entry)) at (now (out .exit)) r ⌝ }
 {
-    put_hex64(out, at, floats::bits_of_f64(x))
+    put_hex64(out, at, num_floats::bits_of_f64(x))
 }
 
 // The bits of an f32, NaN as 7FC00000.
 pub fn put_f32(out: &mut [u8], at: usize, x: f32) -> usize
     ensures { λ r. ⌜ Puts (Text.f32Text x) (now (out .entry)) at (now (out .exit)) r ⌝ }
 {
-    put_hex32(out, at, floats::bits_of_f32(x))
+    put_hex32(out, at, num_floats::bits_of_f32(x))
 }
 
 // v in decimal.

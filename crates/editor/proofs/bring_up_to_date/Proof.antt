@@ -2,11 +2,11 @@
 use mathlib.Core.Path.{sym, ap, _∙_}
 use Prim.Native.Nat.{_+_, _-_, min, max}
 use native.Mathlib.Omega.{arith}
-use Rattle.tables.specs.Parts.{fill}
-use Rattle.objects.specs.declared.Layout.{Layout}
-use Rattle.records.specs.Fill.{filledRange}
-use Rattle.opening.specs.Header.{settingsOf}
-use Rattle.evaluators.specs.Values.{valuesIn}
+use Rattle.num_tables.specs.Parts.{fill}
+use Rattle.chart_fields.specs.declared.Layout.{Layout}
+use Rattle.osu_records.specs.Fill.{filledRange}
+use Rattle.chart_opening.specs.Header.{settingsOf}
+use Rattle.eval_values.specs.Values.{valuesIn}
 use Rattle.editor.proofs.Outcomes.{records-edited, values-edited}
 use Rattle.editor.proofs.Fits.{fits}
 use borrow.Author.Needs.{needs}

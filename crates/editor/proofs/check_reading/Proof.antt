@@ -2,8 +2,8 @@
 use mathlib.Core.Path.{sym, _∙_}
 use native.Mathlib.Omega.{arith}
 use borrow.Author.Tests.{lt-ltb, le-ltb, not-true, not-false}
-use Rattle.opening.proofs.Header.{parts}
-use Rattle.opening.specs.Conditions.{firstOf}
+use Rattle.chart_opening.proofs.Header.{parts}
+use Rattle.chart_opening.specs.Conditions.{firstOf}
 use Rattle.calls.specs.Conditions.{readConditions}
 use borrow.Author.Needs.{needs}
 use Rattle.editor.proofs.check_reading.Statement.{statement}

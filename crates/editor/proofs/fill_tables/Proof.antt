@@ -2,10 +2,10 @@
 use mathlib.Core.Path.{sym, _∙_}
 use Prim.Native.Nat.{_-_}
 use native.Mathlib.Omega.{arith}
-use Rattle.tables.specs.Parts.{fill}
-use Rattle.records.specs.Fill.{filled}
-use Rattle.opening.specs.Header.{settingsOf}
-use Rattle.evaluators.specs.Values.{valuesIn}
+use Rattle.num_tables.specs.Parts.{fill}
+use Rattle.osu_records.specs.Fill.{filled}
+use Rattle.chart_opening.specs.Header.{settingsOf}
+use Rattle.eval_values.specs.Values.{valuesIn}
 use Rattle.calls.specs.Calls.{opened, openRecords}
 use Rattle.editor.proofs.Outcomes.{records-opened, values-opened}
 use Rattle.editor.proofs.Fits.{fits}

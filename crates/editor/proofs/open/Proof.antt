@@ -1,7 +1,7 @@
 -- `editor::open` meets its contract. Assumes nothing.
 use mathlib.Core.Path.{sym, ap, _∙_}
 use Prim.Native.Nat.{ℕ}
-use Rattle.opening.specs.Conditions.{openVerdict}
+use Rattle.chart_opening.specs.Conditions.{openVerdict}
 use Rattle.calls.specs.Calls.{state, opened}
 use Rattle.editor.proofs.Outcomes.{opening-is, open-refused, open-accepted}
 use borrow.Author.Needs.{needs}

@@ -2,7 +2,7 @@
 use mathlib.Core.Path.{sym, ap, _∙_}
 use mathlib.Core.List.{[]}
 use native.Mathlib.Omega.{arith}
-use Rattle.opening.proofs.Header.{holds}
+use Rattle.chart_opening.proofs.Header.{holds}
 use Rattle.calls.specs.Calls.{recordIs, result}
 use Rattle.calls.proofs.Refusals.{accepted-read}
 use Rattle.editor.proofs.Outcomes.{record-refused, record-read}

@@ -3,13 +3,13 @@ use Prim.Native.Nat.{ℕ}
 use mathlib.Core.Path.{_≡_, refl, sym, ap, _∙_}
 use mathlib.Core.List.{List}
 use lib.ListN.{length}
-use Rattle.opening.specs.Header.{settingsOf}
-use Rattle.opening.specs.Conditions.{ifAccepted, openVerdict}
-use Rattle.opening.specs.Accepted.{opens-with}
-use Rattle.opening.specs.declared.Verdict.{Verdict}
-use Rattle.opening.specs.declared.Verdict.the-variants.{Accepted, Refused}
-use Rattle.replacing.specs.Replace.{putObject, replaceVerdict}
-use Rattle.replacing.specs.Accepted.{taken, room}
+use Rattle.chart_opening.specs.Header.{settingsOf}
+use Rattle.chart_opening.specs.Conditions.{ifAccepted, openVerdict}
+use Rattle.chart_opening.specs.Accepted.{opens-with}
+use Rattle.chart_opening.specs.declared.Verdict.{Verdict}
+use Rattle.chart_opening.specs.declared.Verdict.the-variants.{Accepted, Refused}
+use Rattle.chart_replacing.specs.Replace.{putObject, replaceVerdict}
+use Rattle.chart_replacing.specs.Accepted.{taken, room}
 use Rattle.calls.specs.Tables.{entriesOf}
 use Rattle.calls.specs.Calls.{refused, replaced, result, editRecords, editValues}
 use Rattle.calls.proofs.Replacing.{count-same}

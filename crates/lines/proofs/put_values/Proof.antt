@@ -1,7 +1,7 @@
 -- `lines::put_values` meets its contract: the parts one after the other, the five numbers as the text of the row. Assumes nothing.
 use Rattle.text.specs.Text.{decimalText}
 use Rattle.text.specs.Buffer.{then}
-use Rattle.evaluators.specs.Values.{rowOf}
+use Rattle.eval_values.specs.Values.{rowOf}
 use Rattle.lines.specs.Lines.{placeText}
 use Rattle.lines.proofs.Chains.{numbers-five}
 use borrow.Author.Needs.{needs}

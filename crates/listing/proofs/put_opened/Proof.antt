@@ -2,7 +2,7 @@
 use mathlib.Core.Path.{ap}
 use native.Mathlib.Nat.{le-of-eq}
 use Rattle.text.specs.Buffer.{then, same-text}
-use Rattle.objects.specs.declared.Layout.{Layout}
+use Rattle.chart_fields.specs.declared.Layout.{Layout}
 use Rattle.listing.proofs.Calls.{has-header}
 use Rattle.listing.proofs.Room.{filled-text}
 use borrow.Author.Needs.{needs}

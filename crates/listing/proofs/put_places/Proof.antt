@@ -4,7 +4,7 @@ use Prim.Native.Nat.{_-_, _≤_, max}
 use native.Mathlib.Omega.{arith}
 use mathlib.Core.Path.{_≡_, ap}
 use Rattle.text.specs.Buffer.{Puts, none, same-text, length-kept}
-use Rattle.tables.specs.Parts.{row}
+use Rattle.num_tables.specs.Parts.{row}
 use Rattle.listing.specs.List.{placesText}
 use Rattle.listing.proofs.Room.{place-turn}
 use Rattle.listing.proofs.put_places.Statement.{statement}

@@ -1,5 +1,5 @@
 -- `osu_object::segment` meets its contract. Assumes nothing.
-use Rattle.objects.proofs.Search.{Passed, begin, found, passed, none}
+use Rattle.chart_fields.proofs.Search.{Passed, begin, found, passed, none}
 use Prim.Native.Nat.{_-_}
 use borrow.Author.Needs.{needs}
 use Rattle.osu_object.proofs.Lists.{length-list}

@@ -6,7 +6,7 @@ use mathlib.Core.List.{List, _++_}
 use lib.ListN.{length, drop, set, length-set}
 use lib.ListN.{replicate}
 use lib.Ieee.{Float}
-use Rattle.floats.specs.Numbers.{zero64}
+use Rattle.num_floats.specs.Numbers.{zero64}
 use Rattle.skills.proofs.Filling.{fill-more, fill-all}
 use Rattle.skills.proofs.clear.Statement.{statement}
 use Rattle.skills.proofs.clear.Tie as tie

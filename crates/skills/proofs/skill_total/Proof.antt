@@ -2,7 +2,7 @@
 use Rattle.skills.specs.Chart.{startAt, deltaAt}
 use Rattle.skills.specs.Strains.{strainAt, peaksTo}
 use Rattle.skills.specs.Value.{difficultyOf}
-use Rattle.tables.specs.Parts.{row}
+use Rattle.num_tables.specs.Parts.{row}
 use lib.ListN.{take}
 use mathlib.Core.Path.{_≡_, sym, ap, _∙_}
 use native.Mathlib.Nat.{sub-zero}

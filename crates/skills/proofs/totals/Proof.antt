@@ -1,6 +1,6 @@
 -- `skills::totals` meets its contract: each call keeps the length of what it is lent, so that the zeros are as many. Assumes nothing.
 use Rattle.skills.specs.Strains.{total}
-use Rattle.floats.specs.Numbers.{zero64}
+use Rattle.num_floats.specs.Numbers.{zero64}
 use lib.Ieee.{Float}
 use lib.ListN.{replicate}
 use mathlib.Core.List.{List}

@@ -4,7 +4,7 @@ use native.Mathlib.Omega.{arith}
 use Prim.Native.Nat.{_-_}
 use mathlib.Core.Path.{ap, _∙_}
 use lib.Ieee.{Float}
-use Rattle.floats.specs.Numbers.{_⊘_}
+use Rattle.num_floats.specs.Numbers.{_⊘_}
 use Rattle.skills.specs.Shown.{opened}
 use Rattle.skills.proofs.Places.{Walked, walked-first, walked-next, walked-done}
 use Rattle.skills.proofs.walk.Statement.{statement}

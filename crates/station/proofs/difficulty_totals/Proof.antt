@@ -1,7 +1,7 @@
 -- `station::difficulty_totals` meets its contract. Assumes nothing.
 use mathlib.Core.Path.{sym, ap, _∙_}
 use lib.ListN.{length}
-use Rattle.tables.specs.Parts.{put}
+use Rattle.num_tables.specs.Parts.{put}
 use mathlib.Core.Path.{refl}
 use Rattle.calls.specs.Calls.{Answer, Outcome}
 use Rattle.editor.specs.Answers.{totalsAnswer, scratchOf}

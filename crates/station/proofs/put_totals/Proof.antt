@@ -2,7 +2,7 @@
 use denote.Ref.{now}
 use lib.ListN.{length-set}
 use native.Mathlib.Omega.{arith}
-use Rattle.tables.specs.Rows.{sets-put}
+use Rattle.num_tables.specs.Rows.{sets-put}
 use Rattle.station.specs.Codes.{totalsRow}
 use borrow.Author.Needs.{needs}
 use Rattle.station.proofs.put_totals.Statement.{statement}

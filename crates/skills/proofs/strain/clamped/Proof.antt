@@ -1,7 +1,7 @@
 -- `skills::strain::clamped` meets its contract. Assumes nothing.
 use Rattle.skills.specs.Value.{clamped}
-use Rattle.floats.specs.Compare.{clampOf}
-use Rattle.floats.specs.Numbers.{zero64, one64}
+use Rattle.num_floats.specs.Compare.{clampOf}
+use Rattle.num_floats.specs.Numbers.{zero64, one64}
 use mathlib.Core.Path.{ap, _∙_}
 use lib.Ieee.{Float}
 use borrow.Author.Needs.{needs}

@@ -3,7 +3,7 @@ use borrow.Author.Needs.{needs}
 use Prim.Native.Nat.{_≤_, _-_}
 use mathlib.Core.Path.{_≡_, sym, _∙_}
 use lib.ListN.{length, drop}
-use Rattle.floats.specs.Numbers.{zero64}
+use Rattle.num_floats.specs.Numbers.{zero64}
 use Rattle.skills.specs.Value.{sumFrom}
 use Rattle.skills.proofs.Sums.{sum-next, sum-done}
 use Rattle.skills.proofs.strain.sum.Statement.{statement}

@@ -1,7 +1,7 @@
 -- `skills::strain::value_of_positive` meets its contract. Assumes nothing.
 use Rattle.skills.specs.Value.{weighted, reduced}
-use Rattle.sort.specs.Sort.{sortDesc}
-use Rattle.floats.specs.Numbers.{zero64, one64}
+use Rattle.num_sort.specs.Sort.{sortDesc}
+use Rattle.num_floats.specs.Numbers.{zero64, one64}
 use mathlib.Core.Path.{ap, _∙_}
 use borrow.Author.Needs.{needs}
 use Rattle.skills.proofs.strain.value_of_positive.Statement.{statement}

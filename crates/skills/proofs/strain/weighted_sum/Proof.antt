@@ -3,7 +3,7 @@ use borrow.Author.Needs.{needs}
 use Prim.Native.Nat.{_≤_, _-_}
 use mathlib.Core.Path.{_≡_, sym, _∙_}
 use lib.ListN.{length, drop}
-use Rattle.floats.specs.Numbers.{zero64, one64}
+use Rattle.num_floats.specs.Numbers.{zero64, one64}
 use Rattle.skills.specs.Value.{weighted}
 use Rattle.skills.proofs.Sums.{weigh-next, weigh-done}
 use Rattle.skills.proofs.strain.weighted_sum.Statement.{statement}

@@ -1,0 +1,70 @@
+-- What an accepted header tells. Assumes nothing.
+use Prim.Native.Nat.{ℕ, _+_, _*_, _^_, _≤_, _<_}
+use mathlib.Core.Path.{_≡_, refl}
+use mathlib.Core.Bool.{Bool, true, false, _&&_}
+use mathlib.Core.List.{List}
+use lib.Dec.{eqb}
+use lib.ListN.{length}
+use native.Mathlib.Omega.{arith}
+use borrow.Author.Tests.{leb-true, eqb-true}
+use Rattle.num_floats.specs.Fields.{u32At}
+use Rattle.chart_fields.specs.Limits.{headerSize, pointSize, mostObjects, mostEntries}
+use Rattle.chart_fields.specs.Objects.{Holds}
+use Rattle.chart_fields.specs.declared.Layout.{Layout}
+use Rattle.chart_opening.specs.Header.{layoutOf, countsOk, offsetsOk, headerOk}
+
+pub both : (a b : Bool) → (a && b) ≡ true → (a ≡ true) × (b ≡ true)
+both true b e = (refl, e)
+both false b e = (e, cc)
+
+pub record Few (lay : Layout) : Type 0 where
+  pub objects : lay .n ≤ mostObjects
+  pub nested : lay .nested ≤ mostEntries
+  pub points : lay .points ≤ mostEntries
+
+pub few : (lay : Layout) → countsOk lay ≡ true → Few lay
+unfolding countsOk
+few lay e =
+    let ab = both _ _ e in
+    let a = both _ _ (ab .0) in
+    record { objects = leb-true _ _ (a .0); nested = leb-true _ _ (a .1); points = leb-true _ _ (ab .1) }
+
+-- the tables' ends fit a word
+pub ends-fit : (s : List ℕ) → countsOk (layoutOf s) ≡ true → layoutOf s .«points_at» + pointSize * layoutOf s .points < 2 ^ 64
+unfolding layoutOf
+ends-fit s e = let f = few (layoutOf s) e in omega (arith, f .objects, f .nested, f .points)
+
+-- the parts of condition 1
+pub record Parts (s : List ℕ) : Type 0 where
+  pub long : headerSize ≤ length s
+  pub counts : countsOk (layoutOf s) ≡ true
+  pub offsets : offsetsOk s (layoutOf s) ≡ true
+
+pub parts : (s : List ℕ) → headerOk s ≡ true → Parts s
+unfolding headerOk
+parts s e =
+    let abc = both _ _ e in
+    let ab = both _ _ (abc .0) in
+    let a = both _ _ (ab .0) in
+    record { long = leb-true _ _ (a .0); counts = a .1; offsets = ab .1 }
+
+end-at : (s : List ℕ) (lay : Layout) → offsetsOk s lay ≡ true → lay .«points_at» + pointSize * lay .points ≡ length s
+unfolding offsetsOk
+end-at s lay e = eqb-true _ _ (both (eqb (u32At s 12) headerSize && eqb (u32At s 16) (lay .«nested_at») && eqb (u32At s 20) (lay .«points_at») && eqb (u32At s 24) (length s)) _ e .1)
+
+pub holds : (s : List ℕ) → headerOk s ≡ true → Holds s (layoutOf s)
+unfolding layoutOf
+holds s e =
+    let p = parts s e in
+    let f = few (layoutOf s) (p .counts) in
+    let end = end-at s (layoutOf s) (p .offsets) in
+    record {
+      few = f .objects;
+      few-nested = f .nested;
+      few-points = f .points;
+      size-least = omega arith;
+      size-most = omega arith;
+      objects = omega arith;
+      nested-in = omega arith;
+      points-in = omega arith;
+    }

@@ -1,0 +1,234 @@
+// A chart's header and settings, and the conditions of opening in their order (document 01, "The chart" and "What each call answers").
+
+ghost use mathlib.Core.Path.{_≡_};
+ghost use Prim.Native.Nat.{_+_, _*_, _^_, _<_, _≤_};
+ghost use lib.ListN.{length};
+ghost use Rattle.chart_fields.specs.Limits.{headerSize, pointSize};
+ghost use Rattle.chart_fields.specs.Objects.{Holds};
+ghost use Rattle.chart_opening.specs.Limits.{settingsSize};
+ghost use Rattle.chart_opening.specs.Header.{layoutOf, countsOk, offsetsOk, reservedOk, headerOk, settingsAt, settingsOk, farApart, tooLong};
+ghost use Rattle.chart_opening.specs.Conditions.{refusalNumber, refusalPlace, firstOf, bodyConditions, openVerdict};
+use chart_fields::Layout;
+
+// A chart's settings, the flags taken apart.
+pub struct Settings {
+    pub clock_rate: f64,
+    pub radius: f64,
+    pub hit_window: f64,
+    pub preempt: f64,
+    pub fade_in: f64,
+    pub factor: f32,
+    pub hidden: bool,
+    pub autopilot: bool,
+}
+
+// Why a call is refused: the eight conditions, with the offending place where they have one.
+pub enum Refusal {
+    Header,
+    Setting,
+    Object(usize),
+    Entries(usize),
+    Order(usize),
+    Length,
+    Table,
+    Place,
+}
+
+// What a call that can be refused answers.
+pub enum Verdict {
+    Accepted,
+    Refused(Refusal),
+}
+
+impl Refusal {
+    // The number of the condition.
+    pub fn number(self) -> usize
+        ensures { λ r. ⌜ r ≡ refusalNumber self ⌝ }
+    {
+        match self {
+            Refusal::Header => 1,
+            Refusal::Setting => 2,
+            Refusal::Object(_) => 3,
+            Refusal::Entries(_) => 4,
+            Refusal::Order(_) => 5,
+            Refusal::Length => 6,
+            Refusal::Table => 7,
+            Refusal::Place => 8,
+        }
+    }
+
+    // The offending place, 0 where the condition has none.
+    pub fn place(self) -> usize
+        ensures { λ r. ⌜ r ≡ refusalPlace self ⌝ }
+    {
+        match self {
+            Refusal::Object(i) => i,
+            Refusal::Entries(i) => i,
+            Refusal::Order(i) => i,
+            Refusal::Header => 0,
+            Refusal::Setting => 0,
+            Refusal::Length => 0,
+            Refusal::Table => 0,
+            Refusal::Place => 0,
+        }
+    }
+}
+
+// The layout that the counts of a header ask for; whether the rest of the header agrees is condition 1.
+pub fn layout_of(s: &[u8]) -> Layout
+    requires { ⌜ headerSize ≤ length (now s) ⌝ }
+    ensures { λ r. ⌜ r ≡ layoutOf (now (s .entry)) ⌝ }
+{
+    let n = num_floats::u32_at(s, 0) as usize;
+    let nested = num_floats::u32_at(s, 4) as usize;
+    let points = num_floats::u32_at(s, 8) as usize;
+    let nested_at = chart_fields::HEADER_SIZE + chart_fields::OBJECT_SIZE * n;
+    Layout {
+        n: n,
+        nested: nested,
+        points: points,
+        object_size: chart_fields::OBJECT_SIZE,
+        nested_at: nested_at,
+        points_at: nested_at + 24 * nested,
+    }
+}
+
+// Whether the counts are within their limits.
+fn counts_ok(lay: Layout) -> bool
+    ensures { λ r. ⌜ r ≡ countsOk lay ⌝ }
+{
+    (lay.n <= 16_384) & (lay.nested <= 65_536) & (lay.points <= 65_536)
+}
+
+// Whether the header's offsets and length are those of its counts, and the chart has that length.
+fn offsets_ok(s: &[u8], lay: Layout) -> bool
+    requires { ⌜ (headerSize ≤ length (now s)) × (lay .«points_at» + pointSize * lay .points < 2 ^ 64) ⌝ }
+    ensures { λ r. ⌜ r ≡ offsetsOk (now (s .entry)) lay ⌝ }
+{
+    (num_floats::count_at(s, 12) == chart_fields::HEADER_SIZE)
+        & (num_floats::count_at(s, 16) == lay.nested_at)
+        & (num_floats::count_at(s, 20) == lay.points_at)
+        & (num_floats::count_at(s, 24) == s.len())
+        & (lay.points_at + 16 * lay.points == s.len())
+}
+
+// Whether the word at 28 and the flags' reserved bits are 0.
+fn reserved_ok(s: &[u8]) -> bool
+    requires { ⌜ headerSize ≤ length (now s) ⌝ }
+    ensures { λ r. ⌜ r ≡ reservedOk (now (s .entry)) ⌝ }
+{
+    (num_floats::u32_at(s, 28) == 0) & (num_floats::u32_at(s, 76) < 4)
+}
+
+// Whether the header is right: condition 1 is that it is not.
+pub fn header_ok(s: &[u8]) -> bool
+    ensures { λ r. ⌜ r ≡ headerOk (now (s .entry)) ⌝ }
+{
+    if s.len() < chart_fields::HEADER_SIZE {
+        return false;
+    }
+    let lay = layout_of(s);
+    if !counts_ok(lay) {
+        return false;
+    }
+    offsets_ok(s, lay) & reserved_ok(s)
+}
+
+// The settings at an offset.
+pub fn settings_at(s: &[u8], at: usize) -> Settings
+    requires { ⌜ at + settingsSize ≤ length (now s) ⌝ }
+    ensures { λ r. ⌜ r ≡ settingsAt (now (s .entry)) at ⌝ }
+{
+    let flags = num_floats::u32_at(s, at + 44);
+    Settings {
+        clock_rate: num_floats::f64_at(s, at),
+        radius: num_floats::f64_at(s, at + 8),
+        hit_window: num_floats::f64_at(s, at + 16),
+        preempt: num_floats::f64_at(s, at + 24),
+        fade_in: num_floats::f64_at(s, at + 32),
+        factor: num_floats::f32_at(s, at + 40),
+        hidden: flags % 2 == 1,
+        autopilot: flags / 2 % 2 == 1,
+    }
+}
+
+// Whether every setting is in its range: condition 2 is that one is not.
+pub fn settings_ok(t: Settings) -> bool
+    ensures { λ r. ⌜ r ≡ settingsOk t ⌝ }
+{
+    ((0.25 <= t.clock_rate) & (t.clock_rate <= 4.0))
+        & ((1.0 <= t.radius) & (t.radius <= 200.0))
+        & ((1.0 <= t.hit_window) & (t.hit_window <= 400.0))
+        & ((1.0 <= t.preempt) & (t.preempt <= 10_000.0))
+        & ((1.0 <= t.fade_in) & (t.fade_in <= 10_000.0))
+        & ((0.25 <= t.factor) & (t.factor <= 50.0))
+}
+
+// Whether the starts of place N-1 and of place 1 are more than 3,000,000 ms apart at a clock rate.
+pub fn far_apart(last: f64, first: f64, clock: f64) -> bool
+    ensures { λ r. ⌜ r ≡ farApart last first clock ⌝ }
+{
+    !(last / clock - first / clock <= 3_000_000.0)
+}
+
+// Condition 6.
+fn too_long(chart: &[u8], lay: Layout, clock: f64) -> bool
+    requires { ⌜ Holds (now chart) lay ⌝ }
+    ensures { λ r. ⌜ r ≡ tooLong (now (chart .entry)) lay clock ⌝ }
+{
+    let n = lay.n;
+    if n < 2 {
+        return false;
+    }
+    let last = chart_fields::fields_of(chart, lay, n - 1);
+    let first = chart_fields::fields_of(chart, lay, 1);
+    far_apart(last.start, first.start, clock)
+}
+
+// Conditions 3 to 6, each over the whole chart before the next.
+pub fn check_body(chart: &[u8], lay: Layout, clock: f64) -> Verdict
+    requires { ⌜ Holds (now chart) lay ⌝ }
+    ensures { λ r. ⌜ r ≡ firstOf (bodyConditions (now (chart .entry)) lay clock) ⌝ }
+{
+    let n = lay.n;
+    let object = chart_fields::first_bad_fields(chart, lay);
+    if object < n {
+        return Verdict::Refused(Refusal::Object(object));
+    }
+    let entries = chart_entries::first_bad_entries(chart, lay);
+    if entries < n {
+        return Verdict::Refused(Refusal::Entries(entries));
+    }
+    let order = chart_fields::first_fall(chart, lay);
+    if order < n {
+        return Verdict::Refused(Refusal::Order(order));
+    }
+    if too_long(chart, lay, clock) {
+        return Verdict::Refused(Refusal::Length);
+    }
+    Verdict::Accepted
+}
+
+// Conditions 1 to 7; entries is the number of entries of the shortest table.
+pub fn check(chart: &[u8], entries: usize) -> Verdict
+    ensures { λ r. ⌜ r ≡ openVerdict (now (chart .entry)) entries ⌝ }
+{
+    if !header_ok(chart) {
+        return Verdict::Refused(Refusal::Header);
+    }
+    let lay = layout_of(chart);
+    let settings = settings_at(chart, 32);
+    if !settings_ok(settings) {
+        return Verdict::Refused(Refusal::Setting);
+    }
+    match check_body(chart, lay, settings.clock_rate) {
+        Verdict::Refused(r) => Verdict::Refused(r),
+        Verdict::Accepted => {
+            if entries < lay.n {
+                Verdict::Refused(Refusal::Table)
+            } else {
+                Verdict::Accepted
+            }
+        }
+    }
+}

@@ -1,0 +1,115 @@
+-- The history of the rhythm evaluator: one place of the search for its start, and one turn of its run. Assumes nothing.
+use Prim.Native.Nat.{ℕ, zero, suc, _+_, _-_, _≤_, _<_}
+use native.Mathlib.Omega.{arith}
+use native.Mathlib.Nat.{sub-zero}
+use borrow.Author.Tests.{lt-ltb, le-ltb, ltb-true, ltb-false}
+use mathlib.Core.Path.{_≡_, refl, sym, ap, _∙_}
+use mathlib.Core.Bool.{Bool, true, false, not}
+use mathlib.Core.List.{List}
+use lib.Dec.{ltb}
+use lib.ListN.{set, replicate}
+use lib.IntN.{pos}
+use lib.Ieee as Ieee
+use lib.Ieee.{Float, lt}
+use Rattle.num_floats.specs.Numbers.{_⊕_, _⊖_, zero64}
+use Rattle.osu_object.specs.Osu.{Object}
+use Rattle.osu_difficulty_object.specs.Reading.{tapnessOf, windowOf}
+use Rattle.osu_difficulty_object.specs.declared.OsuDifficultyObject.{OsuDifficultyObject}
+use Rattle.eval_rhythm.specs.Constants.{historyTimeMax}
+use Rattle.eval_rhythm.specs.declared.island.IslandCount.{IslandCount}
+use Rattle.eval_rhythm.specs.declared.step.RhythmState.{RhythmState}
+use Rattle.eval_rhythm.specs.declared.step.Deltas.{Deltas}
+use Rattle.eval_rhythm.specs.declared.step.Cell.{Cell}
+use Rattle.eval_rhythm.specs.Island.{eqI, similarOf}
+use Rattle.eval_rhythm.specs.Counts.{placeOf, entryOf}
+use Rattle.eval_rhythm.specs.Step.{Walk, walkOf, switchRatio, fasterTwice, lastRatio, decayOf, switchedOf, freshState, freshWalk, switchStep, stepOf}
+use Rattle.eval_rhythm.specs.Rhythm.{Cells, runOf, nearOf, startFrom, cellAt, cellsAt}
+use Rattle.eval_rhythm.proofs.Entries.{entries-fresh}
+
+-- ---- the search for the start, and the run
+
+module _ (v : Cells) (hist r : ℕ) where
+  left : r < hist → hist - r ≡ suc (hist - (r + 1))
+  left h = omega arith
+
+  pub start-more : r < hist → nearOf v hist r ≡ true → startFrom v hist (hist - r) r ≡ startFrom v hist (hist - (r + 1)) (r + 1)
+  unfolding startFrom
+  start-more h e = rw (left h, e)
+
+  pub start-stop : r < hist → nearOf v hist r ≡ false → startFrom v hist (hist - r) r ≡ r
+  unfolding startFrom
+  start-stop h e = rw (left h, e)
+
+  start-end : hist ≤ r → startFrom v hist (hist - r) r ≡ r
+  unfolding startFrom
+  start-end h = let e : hist - r ≡ 0 = omega arith in rw e
+
+run-one : (v : Cells) (hist : ℕ) (window eps : Float) (k : ℕ) (s : Walk) → 0 < k
+    → runOf v hist window eps k s
+    ≡ runOf v hist window eps (k - 1)
+    (stepOf s (v k) (v (k + 1)) (v (k + 2)) (decayOf (v 0 .«start_time») (v k .«start_time») hist k) window eps)
+unfolding runOf
+run-one v hist window eps zero s h = absurd (omega arith)
+run-one v hist window eps (suc k) s h = let e : suc k - 1 ≡ k = omega arith in rw e
+
+-- ---- from what the calls of a turn ensure
+
+pub fresh-walk : (eps : Float) (s : RhythmState) → s ≡ freshState eps
+    → walkOf s eps (replicate 32 (pos 0)) (replicate 32 (pos 0)) (replicate 32 0) ≡ freshWalk eps
+unfolding freshWalk
+fresh-walk eps s e = rw (e, entries-fresh eps 32)
+
+pub switch-is : (w : Walk) (ratio : Float) (d : Deltas) (curr prev : Cell) (decay window eps : Float)
+    (at : ℕ) (e : IslandCount) (es : List IslandCount) (similar faster : Bool) (r tapped tap last : Float) (next : RhythmState)
+    → at ≡ placeOf (w .counts) (w .state .n) (w .state .island)
+    → e ≡ entryOf (w .counts) (w .state .n) at (w .state .island) (w .state .«prev_island»)
+    → es ≡ set (w .counts) at e
+    → similar ≡ similarOf (w .state .island) (w .state .«prev_island»)
+    → faster ≡ fasterTwice d eps
+    → r ≡ switchRatio ratio (curr .slider) (prev .slider) similar faster (eqI (w .state .«prev_island» .«delta_count») (w .state .island .«delta_count»))
+    → tapped ≡ windowOf (prev .spinner) window
+    → tap ≡ tapnessOf (prev .«delta_time») (curr .«delta_time») tapped
+    → last ≡ lastRatio r (ltb at (w .state .n)) (w .state .island .delta) (e .count) tap
+    → next ≡ switchedOf (w .state) last (ltb at (w .state .n)) (not (lt (d .prev ⊕ eps) (d .curr))) decay (Ieee.toSigned 31 (d .curr)) eps
+    → record { state = next; counts = es } ≡ switchStep w ratio d curr prev decay window eps
+unfolding switchStep
+switch-is w ratio d curr prev decay window eps at e es similar faster r tapped tap last next h1 h2 h3 h4 h5 h6 h7 h8 h9 h10 =
+    rw (h10, h9, h8, h7, h6, h5, h4, h3, h2, h1)
+
+module _ (v : Cells) (hist : ℕ) where
+  pub run-turn : (window eps : Float) (k : ℕ) (s next : Walk) (here curr prev last : Cell) (d : Float) → 0 < k
+      → here ≡ v 0 → curr ≡ v k → prev ≡ v (k + 1) → last ≡ v (k + 2)
+      → d ≡ decayOf (here .«start_time») (curr .«start_time») hist k
+      → next ≡ stepOf s curr prev last d window eps
+      → runOf v hist window eps (k - 1) next ≡ runOf v hist window eps k s
+  run-turn window eps k s next here curr prev last d h hh hc hp hl hd hn =
+      rw (hn, hd, hh, hc, hp, hl) (sym (run-one v hist window eps k s h))
+
+  pub near-is : (r : ℕ) (here prev : Cell) (b : Bool) → r + 2 < hist → here ≡ v 0 → prev ≡ v (r + 1)
+      → lt (here .«start_time» ⊖ prev .«start_time») historyTimeMax ≡ b → nearOf v hist r ≡ b
+  near-is r here prev b h hh hp e = rw (lt-ltb (r + 2) hist h, ← hh, ← hp) e
+
+  pub start-done : (r : ℕ) → hist ≤ r + 2 → startFrom v hist (hist - r) r ≡ r
+  start-done r h = go (ltb r hist) refl
+    where
+      go : (b : Bool) → ltb r hist ≡ b → startFrom v hist (hist - r) r ≡ r
+      go true e = start-stop v hist r (ltb-true r hist e) (rw (le-ltb (r + 2) hist h))
+      go false e = start-end v hist r (ltb-false r hist e)
+
+-- the cell of one number of places back is that of an equal one
+pub cell-back : (os : ℕ → Object) (rs : ℕ → OsuDifficultyObject) (j k i : ℕ) (c : Cell) → k ≡ i → c ≡ cellsAt os rs j k → c ≡ cellsAt os rs j i
+cell-back os rs j k i c p e = e ∙ ap (cellsAt os rs j) p
+
+-- the view's first cell is the place's own
+pub cell-here : (os : ℕ → Object) (rs : ℕ → OsuDifficultyObject) (j : ℕ) (c : Cell) → c ≡ cellAt os rs j → c ≡ cellsAt os rs j 0
+cell-here os rs j c e = rw sub-zero e
+
+pub run-end : (v : Cells) (hist : ℕ) (window eps : Float) (k : ℕ) (s : Walk) → k ≤ 0 → runOf v hist window eps k s ≡ s
+unfolding runOf
+run-end v hist window eps zero s h = refl
+run-end v hist window eps (suc k) s h = absurd (omega arith)
+
+-- without a turn there is no sum
+pub run-none : (v : Cells) (hist : ℕ) (window eps : Float) (from : ℕ) → from ≡ 0 → zero64 ≡ runOf v hist window eps from (freshWalk eps) .state .sum
+unfolding runOf freshWalk freshState
+run-none v hist window eps from e = rw e

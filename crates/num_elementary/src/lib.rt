@@ -1,0 +1,283 @@
+// Log, Two, Power, exp and log10 over whole numbers (document 01, "Positions, paths, numbers").
+ghost use mathlib.Core.Path.{_≡_};
+ghost use mathlib.Core.Bool.{true, false, not};
+ghost use Prim.Native.Nat.{_*_, _/_, _^_, _≤_, _<_};
+ghost use lib.Dec.{T};
+ghost use lib.IntN.{pos, negsuc};
+ghost use lib.Signed.{ltZ, leZ};
+ghost use lib.Ieee as Ieee;
+ghost use lib.Ieee.{fin, odd};
+ghost use lib.Ieee.Positive.{positive};
+ghost use Rattle.num_elementary.specs.Log.{logBits, logOf};
+ghost use Rattle.num_elementary.specs.Two.{twoRoot, twoBits, twoRound, twoAt, floorZ, twoOf};
+ghost use Rattle.num_elementary.specs.Power.{powerOfZero, powerOther, powerOf, expOf, log10Of};
+
+// 1 and 2 as M and P of Log and Two have them, in units of 2^-62.
+const ONE: u64 = 0x4000_0000_0000_0000;
+
+const TWO: u64 = 0x8000_0000_0000_0000;
+
+// A digit of 31 bits.
+const DIGIT: u64 = 0x8000_0000;
+
+// L and E count in units of 2^-40.
+const TWO_40: u64 = 0x100_0000_0000;
+
+const SCALE: i64 = TWO_40 as i64;
+
+const SCALE_64: f64 = TWO_40 as f64;
+
+// What Two is worked out for: n from -1022 to 1023.
+const TWO_LEAST: f64 = -1022.0 * SCALE_64;
+
+const TWO_END: f64 = 1024.0 * SCALE_64;
+
+// The logarithms of e to the base 2 and of 2 to the base 10.
+const LOG2_E: f64 = 1.4426950408889634;
+
+const LOG10_2: f64 = 0.3010299956639812;
+
+// floor(a * b / 2^62), by digits of 31 bits: each column of products fits 64 bits.
+fn mul_shift62(a: u64, b: u64) -> u64
+    requires { ⌜ (a < 2 ^ 63) × (b < 2 ^ 63) ⌝ }
+    ensures { λ r. ⌜ r ≡ a * b / 2 ^ 62 ⌝ }
+{
+    let a1 = a / DIGIT;
+    let a0 = a % DIGIT;
+    let b1 = b / DIGIT;
+    let b0 = b % DIGIT;
+    let middle = a1 * b0 + a0 * b1 + a0 * b0 / DIGIT;
+    a1 * b1 + middle / DIGIT
+}
+
+// The forty bits of Log's fraction for M, which stands for M / 2^62: square, and take the bit at 2^63.
+fn log_bits(m: u64) -> u64
+    requires { ⌜ m < 2 ^ 63 ⌝ }
+    ensures { λ r. ⌜ (r ≡ logBits 40 m 0) × (r < 2 ^ 40) ⌝ }
+{
+    let mut m = m;
+    let mut bits: u64 = 0;
+    let mut left: u64 = 40;
+    while 0 < left {
+        let s = mul_shift62(m, m);
+        if TWO <= s {
+            m = s / 2;
+            bits = bits * 2 + 1;
+        } else {
+            m = s;
+            bits = bits * 2;
+        }
+        left -= 1;
+    }
+    bits
+}
+
+// The same at once for a power of two, whose M of 2^62 stays as it is: Power's bases are often 1.
+fn log_fraction(m: u64) -> u64
+    requires { ⌜ m < 2 ^ 63 ⌝ }
+    ensures { λ r. ⌜ (r ≡ logBits 40 m 0) × (r < 2 ^ 40) ⌝ }
+{
+    if m == ONE {
+        return 0;
+    }
+    log_bits(m)
+}
+
+// L of m * 2^(k - 1074), a number above zero by its significand and its place.
+fn log_scaled(m: u64, k: u64) -> i64
+    requires { ⌜ (0 < m) × (m < 2 ^ 53) × (k < 2046) ⌝ }
+    ensures { λ r. ⌜ r ≡ logOf (odd 53 false m k 1074) ⌝ }
+{
+    let zeros = u64::leading_zeros(m) as u64;
+    let fraction = log_fraction(m << (zeros - 1));
+    let q: i64 = (k + (64 - zeros)) as i64 - 1075;
+    q * SCALE + fraction as i64
+}
+
+// L of a finite b above zero; it is below zero for b under 1.
+fn log(b: f64) -> i64
+    requires { ⌜ T (positive b) ⌝ }
+    ensures { λ r. ⌜ r ≡ logOf b ⌝ }
+{
+    let p = num_floats::parts(num_floats::bits_of_f64(b), num_floats::FIELD);
+    log_scaled(p.digits, p.exponent)
+}
+
+// T(j) for j from 1 to 40: T(j+1) is the largest t with t * t <= T(j) * 2^62. A match is compiled to a table in
+// read-only data, where a constant array is written to the stack at each use.
+fn two_root(j: usize) -> u64
+    requires { ⌜ (0 < j) × (j < 41) ⌝ }
+    ensures { λ r. ⌜ r ≡ twoRoot j ⌝ }
+{
+    match j {
+        1 => 6521908912666391106,
+        2 => 5484249825272419511,
+        3 => 5029079263719320435,
+        4 => 4815862801830788490,
+        5 => 4712668792719003883,
+        6 => 4661903986662671289,
+        7 => 4636727017470743989,
+        8 => 4624189567668517719,
+        9 => 4617933561212708775,
+        10 => 4614808732577250067,
+        11 => 4613247111281068007,
+        12 => 4612466498810092973,
+        13 => 4612076242109103706,
+        14 => 4611881126141011235,
+        15 => 4611783571252412753,
+        16 => 4611734794581956352,
+        17 => 4611710406440186475,
+        18 => 4611698212417665818,
+        19 => 4611692115418496523,
+        20 => 4611689066921934629,
+        21 => 4611687542674409370,
+        22 => 4611686780550835663,
+        23 => 4611686399489096040,
+        24 => 4611686208958238036,
+        25 => 4611686113692811986,
+        26 => 4611686066060099699,
+        27 => 4611686042243743740,
+        28 => 4611686030335565806,
+        29 => 4611686024381476851,
+        30 => 4611686021404432376,
+        31 => 4611686019915910139,
+        32 => 4611686019171649021,
+        33 => 4611686018799518462,
+        34 => 4611686018613453182,
+        35 => 4611686018520420542,
+        36 => 4611686018473904222,
+        37 => 4611686018450646062,
+        38 => 4611686018439016982,
+        39 => 4611686018433202442,
+        _ => 4611686018430295172,
+    }
+}
+
+// P of Two for the fraction f / 2^40: 2^62 times the roots T(j) at whose place f has a bit. Only the bits that are set take a
+// turn: where they stand does not wait for P, and no branch but the last depends on them.
+fn two_bits(f: u64) -> u64
+    ensures { λ r. ⌜ (r ≡ twoBits 40 f (2 ^ 62)) × (2 ^ 62 ≤ r) × (r < 2 ^ 63) ⌝ }
+{
+    let mut p: u64 = ONE;
+    let mut rest = f % TWO_40;
+    while 0 < rest {
+        let k = (63 - u64::leading_zeros(rest)) as usize;
+        p = mul_shift62(p, two_root(40 - k));
+        rest -= 1 << k;
+    }
+    p
+}
+
+// The 53 digits that are kept of P.
+fn two_round(p: u64) -> u64
+    ensures { λ r. ⌜ r ≡ twoRound p ⌝ }
+{
+    p / 1024
+}
+
+// Two at a whole number E from -1022 * 2^40 to below 1024 * 2^40: E = n * 2^40 + f by floor division. The leading
+// digit of P adds one to the exponent's field, n + 1022.
+fn two_whole(e: i64) -> f64
+    requires { ⌜ T (leZ (negsuc 1123700883587071) e) × T (ltZ e (pos (2 ^ 50))) ⌝ }
+    ensures { λ r. ⌜ r ≡ twoAt e ⌝ }
+{
+    let n: i64 = e >> 40;
+    let f = (e - n * SCALE) as u64;
+    let field = (n + 1022) as u64;
+    f64::from_bits(field * num_floats::FIELD + two_round(two_bits(f)))
+}
+
+// floor(p) as an i64, for a p from -1022 * 2^40 to below 2^50.
+fn floor_i64(p: f64) -> i64
+    requires { ⌜ T (not (Ieee.lt p (fin true 511 (pos 41)))) × T (Ieee.lt p (fin false 1 (pos 50))) ⌝ }
+    ensures { λ r. ⌜ (r ≡ floorZ p) × T (leZ (negsuc 1123700883587071) r) × T (ltZ r (pos (2 ^ 50))) ⌝ }
+{
+    std::num::truncating_f64_to_i64(num_whole::floor(p))
+}
+
+// Two of p: 2^(p / 2^40) by whole numbers. The ends of n, -1022 and 1023, are tested on p.
+pub fn two(p: f64) -> f64
+    ensures { λ r. ⌜ r ≡ twoOf p ⌝ }
+{
+    if p != p {
+        return p;
+    }
+    if p < TWO_LEAST {
+        return 0.0;
+    }
+    if p < TWO_END {
+        return two_whole(floor_i64(p));
+    }
+    f64::from_bits(num_floats::INFINITY_BITS)
+}
+
+// Power of the base 0.
+fn power_of_zero(e: f64) -> f64
+    ensures { λ r. ⌜ r ≡ powerOfZero e ⌝ }
+{
+    if e == 0.0 {
+        1.0
+    } else if 0.0 < e {
+        0.0
+    } else {
+        f64::from_bits(num_floats::INFINITY_BITS)
+    }
+}
+
+// Power at an exponent other than 2.0, 3.0 and 0.5.
+fn power_other(b: f64, e: f64) -> f64
+    ensures { λ r. ⌜ r ≡ powerOther b e ⌝ }
+{
+    if !num_floats::is_finite(b) {
+        return num_floats::nan();
+    }
+    if !num_floats::is_finite(e) {
+        return num_floats::nan();
+    }
+    if b < 0.0 {
+        return num_floats::nan();
+    }
+    if 0.0 < b {
+        return two(e * (log(b) as f64));
+    }
+    power_of_zero(e)
+}
+
+// Power(b, e). For any base, exponents 2.0 and 3.0 are products and 0.5 is the root; they never go through Two.
+pub fn power(b: f64, e: f64) -> f64
+    ensures { λ r. ⌜ r ≡ powerOf b e ⌝ }
+{
+    if e == 2.0 {
+        b * b
+    } else if e == 3.0 {
+        b * b * b
+    } else if e == 0.5 {
+        num_roots::root64(b)
+    } else {
+        power_other(b, e)
+    }
+}
+
+// exp(x), by Two; NaN where x is not finite.
+pub fn exp(x: f64) -> f64
+    ensures { λ r. ⌜ r ≡ expOf x ⌝ }
+{
+    if num_floats::is_finite(x) {
+        two(x * LOG2_E * SCALE_64)
+    } else {
+        num_floats::nan()
+    }
+}
+
+// log10(b), by Log; NaN where b is not finite or not above zero.
+pub fn log10(b: f64) -> f64
+    ensures { λ r. ⌜ r ≡ log10Of b ⌝ }
+{
+    if !num_floats::is_finite(b) {
+        return num_floats::nan();
+    }
+    if 0.0 < b {
+        return log(b) as f64 / SCALE_64 * LOG10_2;
+    }
+    num_floats::nan()
+}

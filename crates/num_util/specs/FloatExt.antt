@@ -1,0 +1,13 @@
+-- util/float_ext.rs. Definitions only.
+use mathlib.Core.Bool.{Bool}
+use lib.Ieee as Ieee
+use lib.Ieee.{Float}
+use Rattle.num_floats.specs.Numbers.{f64, _⊖_}
+use Rattle.num_floats.specs.Compare.{absOf}
+
+-- f64::EPSILON = 2^-52
+abbrev pub epsilon : Float
+epsilon = f64 0x3CB0000000000000
+
+unfoldable pub notEq : Float → Float → Bool
+notEq a b = Ieee.le epsilon (absOf (a ⊖ b))

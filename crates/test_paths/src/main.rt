@@ -1,0 +1,87 @@
+// Looks positions up on paths. Standard input has for each lookup the progress (f64), the number of points (u32, 1 to 64) and the points (f32 x, f32 y,
+// f64 length so far), little-endian. The position is written as bits, x and y.
+ghost use Prim.Native.Nat.{_+_, _*_, _<_, _≤_};
+ghost use lib.ListN.{length};
+use chart_fields::Layout;
+use osu_object::Runs;
+use osu_pos::Pos;
+
+// Lookups that are made at most.
+const MOST: usize = 65536;
+
+const MOST_POINTS: usize = 64;
+
+// Where the points begin: after a header and one nested entry, as in a chart without objects.
+const POINTS_AT: usize = 104;
+
+// The position on the path of the first points.
+fn position(path: &[u8], count: usize, progress: f64) -> Pos
+    requires { ⌜ (0 < count) × (count ≤ 64) × (104 + 16 * count ≤ length (now path)) ⌝ }
+{
+    let lay = Layout {
+        n: 0,
+        nested: 1,
+        points: count,
+        object_size: 56,
+        nested_at: 80,
+        points_at: POINTS_AT,
+    };
+    let run = Runs {
+        nested_first: 0,
+        nested_count: 1,
+        point_first: 0,
+        point_count: count,
+    };
+    osu_object::position_at(path, lay, run, progress)
+}
+
+fn show(p: Pos) {
+    let mut line = [0u8; 32];
+    let mut end = text::put_f32(&mut line[..], 0, p.x);
+    end = text::put(&mut line[..], end, b' ');
+    end = text::put_f32(&mut line[..], end, p.y);
+    end = text::put(&mut line[..], end, b'\n');
+    text::show(&line[..], end);
+}
+
+// Reads a lookup and answers it; false at the end of the input.
+fn answer(path: &mut [u8]) -> bool
+    requires { ⌜ 1128 ≤ length (now path) ⌝ }
+{
+    let mut head = [0u8; 12];
+    if io::read_full(0, &mut head[..]) < 12 {
+        return false;
+    }
+    let count = num_floats::count_at(&head[..], 8);
+    if count < 1 {
+        return false;
+    }
+    if MOST_POINTS < count {
+        return false;
+    }
+    let size = 16 * count;
+    if io::read_full(0, &mut path[POINTS_AT..POINTS_AT + size]) < size {
+        return false;
+    }
+    let progress = num_floats::f64_at(&head[..], 0);
+    show(position(path, count, progress));
+    true
+}
+
+fn run(path: &mut [u8])
+    requires { ⌜ 1128 ≤ length (now path) ⌝ }
+{
+    let mut left = MOST;
+    while 0 < left {
+        if answer(path) {
+            left -= 1;
+        } else {
+            left = 0;
+        }
+    }
+}
+
+fn main() {
+    let mut path = [0u8; 1128];
+    run(&mut path[..]);
+}

@@ -1,0 +1,208 @@
+// Lists the strains of charts. Standard input has for each chart its length (u32, little-endian) and its bytes. Of a chart that is opened the
+// number of objects is printed, for each place from 1 on its strains (aim, aim without sliders, speed, flashlight), and the totals; of any
+// other the refusal. Values come from the chart's own records.
+ghost use Prim.Native.Nat.{_*_, _≤_};
+ghost use lib.ListN.{length};
+ghost use Rattle.osu_object.specs.Osu.{Ready};
+ghost use Rattle.skills.specs.Chart.{Readable};
+use chart_fields::Layout;
+use chart_opening::Settings;
+use chart_opening::Verdict;
+use skills::Skill;
+use skills::Skills;
+
+// Charts that are read at most.
+const MOST: usize = 65536;
+
+// Number j, 0 where there is none.
+fn number_at(list: &[f64], j: usize) -> f64 {
+    if j < list.len() { list[j] } else { 0.0 }
+}
+
+// The lines of all places.
+fn put_places(
+    out: &mut [u8],
+    at: usize,
+    n: usize,
+    a: &[f64],
+    b: &[f64],
+    c: &[f64],
+    d: &[f64],
+) -> usize {
+    let mut end = at;
+    let mut j = 1;
+    while j < n {
+        end = text::show_if_full(out, end);
+        end = text::put_decimal(out, end, j as u64);
+        let aim = number_at(a, j);
+        let aim_no_sliders = number_at(b, j);
+        let speed = number_at(c, j);
+        let flashlight = number_at(d, j);
+        end = lines::put_skills(
+            out,
+            end,
+            Skills {
+                aim,
+                aim_no_sliders,
+                speed,
+                flashlight,
+            },
+        );
+        j += 1;
+    }
+    end
+}
+
+// The strains of all places, a list for each skill.
+fn fill_strains(
+    chart: &[u8],
+    lay: Layout,
+    clock: f64,
+    values: &[f64],
+    a: &mut [f64],
+    b: &mut [f64],
+    c: &mut [f64],
+    d: &mut [f64],
+)
+    requires { ⌜ (Readable (now chart) lay (now values)) × (lay .n ≤ 1024) × (8192 ≤ length (now a)) × (8192 ≤ length (now b)) × (8192 ≤ length (now c)) × (8192 ≤ length (now d)) ⌝ }
+{
+    skills::strains_into(chart, lay, clock, values, Skill::Aim, a);
+    skills::strains_into(chart, lay, clock, values, Skill::AimNoSliders, b);
+    skills::strains_into(chart, lay, clock, values, Skill::Speed, c);
+    skills::strains_into(chart, lay, clock, values, Skill::Flashlight, d);
+}
+
+// The totals' line.
+fn put_totals(
+    out: &mut [u8],
+    at: usize,
+    chart: &[u8],
+    lay: Layout,
+    clock: f64,
+    values: &[f64],
+    a: &mut [f64],
+    b: &mut [f64],
+    c: &mut [f64],
+    d: &mut [f64],
+) -> usize
+    requires { ⌜ (Readable (now chart) lay (now values)) × (8192 ≤ length (now a)) × (8192 ≤ length (now b)) × (8192 ≤ length (now c)) × (8192 ≤ length (now d)) ⌝ }
+{
+    let totals = skills::totals(chart, lay, clock, values, a, b, c, d);
+    lines::put_totals(out, at, totals)
+}
+
+// The number of objects and the lines of all places. The scratch holds the strains.
+fn put_strains(
+    out: &mut [u8],
+    chart: &[u8],
+    lay: Layout,
+    clock: f64,
+    values: &[f64],
+    a: &mut [f64],
+    b: &mut [f64],
+    c: &mut [f64],
+    d: &mut [f64],
+) -> usize
+    requires { ⌜ (Readable (now chart) lay (now values)) × (lay .n ≤ 1024) × (8192 ≤ length (now a)) × (8192 ≤ length (now b)) × (8192 ≤ length (now c)) × (8192 ≤ length (now d)) ⌝ }
+{
+    fill_strains(chart, lay, clock, values, a, b, c, d);
+    let count = lines::put_count(out, 0, lay.n);
+    put_places(out, count, lay.n, a, b, c, d)
+}
+
+// All lines of a chart with its values.
+fn list(
+    out: &mut [u8],
+    chart: &[u8],
+    lay: Layout,
+    clock: f64,
+    values: &[f64],
+    a: &mut [f64],
+    b: &mut [f64],
+    c: &mut [f64],
+    d: &mut [f64],
+)
+    requires { ⌜ (Readable (now chart) lay (now values)) × (lay .n ≤ 1024) × (8192 ≤ length (now a)) × (8192 ≤ length (now b)) × (8192 ≤ length (now c)) × (8192 ≤ length (now d)) ⌝ }
+{
+    let places = put_strains(out, chart, lay, clock, values, a, b, c, d);
+    let end = put_totals(out, places, chart, lay, clock, values, a, b, c, d);
+    text::show(out, end);
+}
+
+// The tables of a chart that is ready to be read.
+fn fill_tables(chart: &[u8], lay: Layout, set: Settings, t: &mut [f64], values: &mut [f64])
+    requires { ⌜ (Ready (now chart) lay) × (16 * lay .n ≤ length (now t)) × (5 * lay .n ≤ length (now values)) ⌝ }
+{
+    osu_records::fill(chart, lay, set, t);
+    eval_values::fill_values(values, t, chart, lay, set, 1, lay.n);
+}
+
+// The lines of one chart.
+fn answer(
+    out: &mut [u8],
+    chart: &[u8],
+    t: &mut [f64],
+    values: &mut [f64],
+    a: &mut [f64],
+    b: &mut [f64],
+    c: &mut [f64],
+    d: &mut [f64],
+)
+    requires { ⌜ (16384 ≤ length (now t)) × (5120 ≤ length (now values)) × (8192 ≤ length (now a)) × (8192 ≤ length (now b)) × (8192 ≤ length (now c)) × (8192 ≤ length (now d)) ⌝ }
+{
+    match chart_opening::check(chart, 1024) {
+        Verdict::Refused(r) => lines::show_refusal(out, r),
+        Verdict::Accepted => {
+            let lay = chart_opening::layout_of(chart);
+            let set = chart_opening::settings_at(chart, 32);
+            fill_tables(chart, lay, set, t, values);
+            list(out, chart, lay, set.clock_rate, values, a, b, c, d);
+        }
+    }
+}
+
+// Charts to the end of the input.
+fn run(
+    out: &mut [u8],
+    chart: &mut [u8],
+    t: &mut [f64],
+    values: &mut [f64],
+    a: &mut [f64],
+    b: &mut [f64],
+    c: &mut [f64],
+    d: &mut [f64],
+)
+    requires { ⌜ (16384 ≤ length (now t)) × (5120 ≤ length (now values)) × (8192 ≤ length (now a)) × (8192 ≤ length (now b)) × (8192 ≤ length (now c)) × (8192 ≤ length (now d)) ⌝ }
+{
+    let mut left = MOST;
+    while 0 < left {
+        let n = text::read_chart(chart);
+        if n <= chart.len() {
+            answer(out, &chart[0..n], t, values, a, b, c, d);
+            left -= 1;
+        } else {
+            left = 0;
+        }
+    }
+}
+
+fn main() {
+    let mut out = io::large_buffer();
+    let mut chart = io::large_buffer();
+    let mut t = [0.0f64; 16384];
+    let mut values = [0.0f64; 5120];
+    let mut a = [0.0f64; 8192];
+    let mut b = [0.0f64; 8192];
+    let mut c = [0.0f64; 8192];
+    let mut d = [0.0f64; 8192];
+    run(
+        &mut out[..],
+        &mut chart[..],
+        &mut t[..],
+        &mut values[..],
+        &mut a[..],
+        &mut b[..],
+        &mut c[..],
+        &mut d[..],
+    );
+}
