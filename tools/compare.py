@@ -10,7 +10,7 @@ TOOLS is the folder of the oracle's scripts (mkcharts.py, mkscripts.py), BUILD t
 lists: PROGRAM reads from standard input for each chart its length (u32, little-endian) and its bytes, and prints the lister's lines for each, one
 after another. The charts are of all styles in turn, to 32,768 bytes; every eighth is damaged, though some of these open. Zeros of either sign are equal.
 
-scripts: PROGRAM is `replay`, or reads and writes as it does (crates/replay/src/main.rt); tools/scripts.py packs the calls. The charts open, and their
+scripts: PROGRAM is `test_scripts`, or reads and writes as it does (crates/test_scripts/src/main.rt); tools/scripts.py packs the calls. The charts open, and their
 scripts are lists of calls with no other hand on the chart. Tables hold numbers of other origin beforehand. Floats are compared by their bits.
 
 The last line is `N equal, M different`; the status is 0 if M is 0 and N isn't.

@@ -1,5 +1,5 @@
 #!/usr/bin/env python3
-"""The stored charts of the program `listings`, and the lines that it must print.
+"""The stored charts of the program `test_listings`, and the lines that it must print.
 
     corpus.py TOOLS BUILD DIR     writes DIR/stdin and DIR/stdout, and prints what is in them
 

@@ -1,5 +1,5 @@
 #!/usr/bin/env python3
-"""Scripts of calls for the program `replay`, with the answers that they must get.
+"""Scripts of calls for the program `test_scripts`, with the answers that they must get.
 
     scripts.py ORACLE SECOND DIR SEED CALLS CHARTS..     writes DIR/stdin and DIR/stdout
 

@@ -1,7 +1,7 @@
 #!/usr/bin/env python3
 """Tests of tools/chart.py: python3 -m unittest tools/test_chart.py
 
-The charts are the stored ones of the programs `checks` and `values_main`; the answers are those stored beside them.
+The charts are the stored ones of the programs `test_opening` and `test_values`; the answers are those stored beside them.
 """
 import os
 import random
@@ -42,21 +42,21 @@ def text_of(*path):
 
 class Corpus(unittest.TestCase):
     def test_round_trip(self):
-        for program in ("checks", "values_main"):
+        for program in ("test_opening", "test_values"):
             for i, b in enumerate(stored(program)):
                 text = chart.to_text(b)
                 self.assertEqual(chart.to_bytes(text), b, f"chart {i} of {program}")
                 self.assertEqual(chart.to_text(chart.to_bytes(text)), text)
 
     def test_answers(self):
-        charts, answers = stored("checks"), lines("checks")
+        charts, answers = stored("test_opening"), lines("test_opening")
         self.assertEqual((len(charts), len(answers)), (3146, 3146))
         for i, (b, answer) in enumerate(zip(charts, answers)):
             found = chart.explain(b)
             self.assertEqual("refused {} {}".format(*found) if found else "opened", answer, f"chart {i}")
 
     def test_reasons_are_whole_sentences(self):
-        for b in stored("checks"):
+        for b in stored("test_opening"):
             found = chart.explain(b)
             if found:
                 self.assertRegex(found[2], r"^(the|it|from) .*\d|^the .* tail|^the .* repeat")
@@ -65,7 +65,7 @@ class Corpus(unittest.TestCase):
     def test_any_bytes(self):
         """Charts cut, lengthened and with any words in their headers come back as they were."""
         rng = random.Random(8)
-        some = [b for b in stored("checks") if 80 < len(b) < 1500]
+        some = [b for b in stored("test_opening") if 80 < len(b) < 1500]
         for _ in range(2000):
             b = bytearray(rng.choice(some))
             for _ in range(rng.randrange(4)):
