@@ -7,7 +7,8 @@ ghost use lib.ListN.{length};
 ghost use Rattle.chart_fields.specs.Limits.{nestedSize, pointSize};
 ghost use Rattle.chart_fields.specs.Objects.{Holds};
 ghost use Rattle.chart_fields.specs.Search.{firstBelow};
-ghost use Rattle.chart_entries.specs.Entries.{nestedAt, nestedOf, pointAt, pointOf, nestedOk, nestedBad, lengthOk, pointOk, pointBad, runsOk, wrongEntries, badEntries};
+ghost use Rattle.chart_entries.specs.Entries.{nestedAt, nestedOf, pointAt, pointOf, nestedOk, nestedBad};
+ghost use Rattle.chart_entries.specs.Entries.{lengthOk, pointOk, pointBad, runsOk, wrongEntries, badEntries};
 use chart_fields::Fields;
 use chart_fields::Layout;
 

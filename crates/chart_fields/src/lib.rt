@@ -5,7 +5,8 @@ ghost use Prim.Native.Nat.{_+_, _<_, _≤_};
 ghost use lib.ListN.{length};
 ghost use Rattle.chart_fields.specs.Limits.{objectSize};
 ghost use Rattle.chart_fields.specs.Search.{firstBelow};
-ghost use Rattle.chart_fields.specs.Objects.{Holds, fieldsAt, fieldsOf, timeOk, coordinateOk, stackOk, countOk, plainOk, sliderOk, kindOk, fieldsOk, badFields, falls};
+ghost use Rattle.chart_fields.specs.Objects.{Holds, fieldsAt, fieldsOf, timeOk, coordinateOk, stackOk};
+ghost use Rattle.chart_fields.specs.Objects.{countOk, plainOk, sliderOk, kindOk, fieldsOk, badFields, falls};
 
 // The bytes of a chart's header, and of an object.
 pub const HEADER_SIZE: usize = 80;

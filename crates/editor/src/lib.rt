@@ -230,7 +230,8 @@ pub fn totals(
     flashlight: &mut [f64],
 ) -> TotalsAnswer
     ensures answer { λ r. ⌜ result (totalsAnswer r) (now (chart .exit)) [] (now (values .exit))
-        ≡ outcome (ops.figure figures.totals (lengths (scratchOf (now (aim .entry)) (now («aim_no_sliders» .entry)) (now (speed .entry)) (now (flashlight .entry)))))
+        ≡ outcome (ops.figure figures.totals
+        (lengths (scratchOf (now (aim .entry)) (now («aim_no_sliders» .entry)) (now (speed .entry)) (now (flashlight .entry)))))
         (state (now (chart .entry)) [] (now (values .entry))) ⌝ }
     ensures scratch { λ _. ⌜ scratchOf (now (aim .exit)) (now («aim_no_sliders» .exit)) (now (speed .exit)) (now (flashlight .exit))
         ≡ scratchAfter figures.totals (state (now (chart .entry)) [] (now (values .entry)))

@@ -60,7 +60,8 @@ fn put_totals(
     speed: &mut [f64],
     flashlight: &mut [f64],
 ) -> usize
-    requires { ⌜ Filled (now chart) (now values) × ScratchRoom (length (now aim)) (length (now «aim_no_sliders»)) (length (now speed)) (length (now flashlight)) ⌝ }
+    requires { ⌜ Filled (now chart) (now values)
+        × ScratchRoom (length (now aim)) (length (now «aim_no_sliders»)) (length (now speed)) (length (now flashlight)) ⌝ }
     ensures { λ r. ⌜ Puts (totalsText (totalsAfresh (now (chart .entry)))) (now (out .entry)) at (now (out .exit)) r ⌝ }
 {
     match editor::totals(chart, values, aim, aim_no_sliders, speed, flashlight) {
@@ -79,7 +80,8 @@ fn put_opened(
     speed: &mut [f64],
     flashlight: &mut [f64],
 ) -> usize
-    requires { ⌜ Filled (now chart) (now values) × ScratchRoom (length (now aim)) (length (now «aim_no_sliders»)) (length (now speed)) (length (now flashlight)) ⌝ }
+    requires { ⌜ Filled (now chart) (now values)
+        × ScratchRoom (length (now aim)) (length (now «aim_no_sliders»)) (length (now speed)) (length (now flashlight)) ⌝ }
     ensures { λ r. ⌜ Puts (afreshText (now (chart .entry))) (now (out .entry)) 0 (now (out .exit)) r ⌝ }
 {
     let n = chart_opening::layout_of(chart).n;
