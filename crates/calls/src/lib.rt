@@ -1,1 +1,2 @@
-// The calls on an opened chart, the plain chart, and demand 3's theorem. This crate has no code: specs/Statement says what is claimed, proofs/Theorems proves it.
+// The calls on an opened chart, the plain chart, and the theorem over every list of calls. This crate has no code: specs/Statement says what is claimed,
+// proofs/Theorems proves it.

@@ -2,7 +2,8 @@
 ghost use mathlib.Core.Path.{_≡_};
 ghost use Prim.Native.Nat.{_+_, _<_, _≤_};
 ghost use Rattle.osu_object.specs.Osu.{Slides, nestedList, pointList, isTick};
-ghost use Rattle.osu_difficulty_object.specs.Cursor.{lastTick, trackingEnd, trackingOf, orderOf, foldedOf, movementOf, requiredOf, advancedOf, stepOf, runOf, startOf, sliderCursor};
+ghost use Rattle.osu_difficulty_object.specs.Cursor.{lastTick, trackingEnd, trackingOf, orderOf, foldedOf, movementOf};
+ghost use Rattle.osu_difficulty_object.specs.Cursor.{requiredOf, advancedOf, stepOf, runOf, startOf, sliderCursor};
 use crate::OsuDifficultyObject;
 use chart_entries::Nested;
 use chart_fields::Layout;

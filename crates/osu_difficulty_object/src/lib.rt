@@ -2,7 +2,8 @@
 ghost use mathlib.Core.Path.{_≡_};
 ghost use Prim.Native.Nat.{_<_};
 ghost use Rattle.osu_object.specs.Osu.{Ready, objectOf};
-ghost use Rattle.osu_difficulty_object.specs.Record.{plainOf, placedOf, travelOf, endCursor, lastCursor, jumpDist, minJumpTime, minJumpDist, sliderJump, jumpOf, turnOf, angleTo, distancesOf, newRecord};
+ghost use Rattle.osu_difficulty_object.specs.Record.{plainOf, placedOf, travelOf, endCursor, lastCursor, jumpDist, minJumpTime};
+ghost use Rattle.osu_difficulty_object.specs.Record.{minJumpDist, sliderJump, jumpOf, turnOf, angleTo, distancesOf, newRecord};
 ghost use Rattle.osu_difficulty_object.specs.Reading.{windowOf, tapnessOf, doubletapness, fadeIn, fadeOut, opacityAt};
 use chart_fields::Layout;
 use chart_opening::Settings;

@@ -304,7 +304,8 @@ pub fn totals(
     speed: &mut [f64],
     flashlight: &mut [f64],
 ) -> Skills
-    requires { ⌜ (Readable (now chart) lay (now values)) × (Roomy (now aim)) × (Roomy (now «aim_no_sliders»)) × (Roomy (now speed)) × (Roomy (now flashlight)) ⌝ }
+    requires { ⌜ (Readable (now chart) lay (now values))
+        × (Roomy (now aim)) × (Roomy (now «aim_no_sliders»)) × (Roomy (now speed)) × (Roomy (now flashlight)) ⌝ }
     ensures result { λ r. ⌜ r ≡ totalsOf (now (chart .entry)) lay clock (now (values .entry)) ⌝ }
     ensures first { λ _. ⌜ now (aim .exit) ≡ replicate (length (now (aim .entry))) zero64 ⌝ }
     ensures second { λ _. ⌜ now («aim_no_sliders» .exit) ≡ replicate (length (now («aim_no_sliders» .entry))) zero64 ⌝ }

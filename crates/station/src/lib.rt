@@ -97,7 +97,8 @@ pub extern "C" fn difficulty_read_record(
     ensures answer { λ r. ⌜ r
         ≡ answerCode (readInto 16 (length (now (out .entry))) (ops.readRecord place) (state (now (chart .entry)) (now (records .entry)) []) .answer) ⌝ }
     ensures out { λ _. ⌜ now (out .exit)
-        ≡ put 0 (numbersOf (readInto 16 (length (now (out .entry))) (ops.readRecord place) (state (now (chart .entry)) (now (records .entry)) []) .answer)) (now (out .entry)) ⌝ }
+        ≡ put 0 (numbersOf (readInto 16 (length (now (out .entry))) (ops.readRecord place) (state (now (chart .entry)) (now (records .entry)) []) .answer))
+        (now (out .entry)) ⌝ }
     ensures leaves { λ _. ⌜ state (now (chart .exit)) (now (records .exit)) [] ≡ state (now (chart .entry)) (now (records .entry)) [] ⌝ }
 {
     match record_into(chart, records, place, out.len()) {
@@ -131,7 +132,8 @@ pub extern "C" fn difficulty_read_values(
     ensures answer { λ r. ⌜ r
         ≡ answerCode (readInto 5 (length (now (out .entry))) (ops.readValues place) (state (now (chart .entry)) [] (now (values .entry))) .answer) ⌝ }
     ensures out { λ _. ⌜ now (out .exit)
-        ≡ put 0 (numbersOf (readInto 5 (length (now (out .entry))) (ops.readValues place) (state (now (chart .entry)) [] (now (values .entry))) .answer)) (now (out .entry)) ⌝ }
+        ≡ put 0 (numbersOf (readInto 5 (length (now (out .entry))) (ops.readValues place) (state (now (chart .entry)) [] (now (values .entry))) .answer))
+        (now (out .entry)) ⌝ }
     ensures leaves { λ _. ⌜ state (now (chart .exit)) [] (now (values .exit)) ≡ state (now (chart .entry)) [] (now (values .entry)) ⌝ }
 {
     match values_into(chart, values, place, out.len()) {

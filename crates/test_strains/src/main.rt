@@ -64,7 +64,8 @@ fn fill_strains(
     c: &mut [f64],
     d: &mut [f64],
 )
-    requires { ⌜ (Readable (now chart) lay (now values)) × (lay .n ≤ 1024) × (8192 ≤ length (now a)) × (8192 ≤ length (now b)) × (8192 ≤ length (now c)) × (8192 ≤ length (now d)) ⌝ }
+    requires { ⌜ (Readable (now chart) lay (now values)) × (lay .n ≤ 1024)
+        × (8192 ≤ length (now a)) × (8192 ≤ length (now b)) × (8192 ≤ length (now c)) × (8192 ≤ length (now d)) ⌝ }
 {
     skills::strains_into(chart, lay, clock, values, Skill::Aim, a);
     skills::strains_into(chart, lay, clock, values, Skill::AimNoSliders, b);
@@ -85,7 +86,8 @@ fn put_totals(
     c: &mut [f64],
     d: &mut [f64],
 ) -> usize
-    requires { ⌜ (Readable (now chart) lay (now values)) × (8192 ≤ length (now a)) × (8192 ≤ length (now b)) × (8192 ≤ length (now c)) × (8192 ≤ length (now d)) ⌝ }
+    requires { ⌜ (Readable (now chart) lay (now values))
+        × (8192 ≤ length (now a)) × (8192 ≤ length (now b)) × (8192 ≤ length (now c)) × (8192 ≤ length (now d)) ⌝ }
 {
     let totals = skills::totals(chart, lay, clock, values, a, b, c, d);
     lines::put_totals(out, at, totals)
@@ -103,7 +105,8 @@ fn put_strains(
     c: &mut [f64],
     d: &mut [f64],
 ) -> usize
-    requires { ⌜ (Readable (now chart) lay (now values)) × (lay .n ≤ 1024) × (8192 ≤ length (now a)) × (8192 ≤ length (now b)) × (8192 ≤ length (now c)) × (8192 ≤ length (now d)) ⌝ }
+    requires { ⌜ (Readable (now chart) lay (now values)) × (lay .n ≤ 1024)
+        × (8192 ≤ length (now a)) × (8192 ≤ length (now b)) × (8192 ≤ length (now c)) × (8192 ≤ length (now d)) ⌝ }
 {
     fill_strains(chart, lay, clock, values, a, b, c, d);
     let count = lines::put_count(out, 0, lay.n);
@@ -122,7 +125,8 @@ fn list(
     c: &mut [f64],
     d: &mut [f64],
 )
-    requires { ⌜ (Readable (now chart) lay (now values)) × (lay .n ≤ 1024) × (8192 ≤ length (now a)) × (8192 ≤ length (now b)) × (8192 ≤ length (now c)) × (8192 ≤ length (now d)) ⌝ }
+    requires { ⌜ (Readable (now chart) lay (now values)) × (lay .n ≤ 1024)
+        × (8192 ≤ length (now a)) × (8192 ≤ length (now b)) × (8192 ≤ length (now c)) × (8192 ≤ length (now d)) ⌝ }
 {
     let places = put_strains(out, chart, lay, clock, values, a, b, c, d);
     let end = put_totals(out, places, chart, lay, clock, values, a, b, c, d);
@@ -148,7 +152,8 @@ fn answer(
     c: &mut [f64],
     d: &mut [f64],
 )
-    requires { ⌜ (16384 ≤ length (now t)) × (5120 ≤ length (now values)) × (8192 ≤ length (now a)) × (8192 ≤ length (now b)) × (8192 ≤ length (now c)) × (8192 ≤ length (now d)) ⌝ }
+    requires { ⌜ (16384 ≤ length (now t)) × (5120 ≤ length (now values))
+        × (8192 ≤ length (now a)) × (8192 ≤ length (now b)) × (8192 ≤ length (now c)) × (8192 ≤ length (now d)) ⌝ }
 {
     match chart_opening::check(chart, 1024) {
         Verdict::Refused(r) => lines::show_refusal(out, r),
@@ -172,7 +177,8 @@ fn run(
     c: &mut [f64],
     d: &mut [f64],
 )
-    requires { ⌜ (16384 ≤ length (now t)) × (5120 ≤ length (now values)) × (8192 ≤ length (now a)) × (8192 ≤ length (now b)) × (8192 ≤ length (now c)) × (8192 ≤ length (now d)) ⌝ }
+    requires { ⌜ (16384 ≤ length (now t)) × (5120 ≤ length (now values))
+        × (8192 ≤ length (now a)) × (8192 ≤ length (now b)) × (8192 ≤ length (now c)) × (8192 ≤ length (now d)) ⌝ }
 {
     let mut left = MOST;
     while 0 < left {
