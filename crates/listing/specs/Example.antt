@@ -22,8 +22,8 @@ use Rattle.osu_difficulty_object.specs.Reading.{doubletapness, fadeIn, fadeOut}
 use Rattle.osu_difficulty_object.specs.Record.{angleTo, endCursor, jumpDist, jumpFrom, jumpOf, lastCursor, minJumpDist, minJumpTime, newRecord, placedOf, plainOf, recordOf as objectRecordOf}
 use Rattle.num_util.specs.Difficulty.{millisecondsToBpm, reverseLerp, smootherstep}
 use Rattle.eval_aim.specs.Aim.{aimOf, allParts, anglesOf}
-use Rattle.eval_speed.specs.Speed.{distBonus, speedAtPlace, speedBonus, speedOf, strainTime, travelBefore}
-use Rattle.eval_rhythm.specs.Rhythm.{cellOf, rhythmAtPlace, rhythmOf, runOf, startFrom, startOf, valueOf as rhythmValueOf}
+use Rattle.eval_speed.specs.Speed.{distBonus, speedBonus, speedBy, speedOf, strainTime}
+use Rattle.eval_rhythm.specs.Rhythm.{cellOf, rhythmBy, runOf, startFrom, startOf, valueOf as rhythmValueOf}
 use Rattle.eval_rhythm.specs.Step.{factorOf, fasterTwice, freshState as rhythmFreshState, freshWalk, lastRatio, progressedOf}
 use Rattle.eval_flashlight.specs.Flashlight.{addedOf, evaluatorOf, flashlightOf, freshState as flashlightFreshState, hiddenOf, opacityBonus, repeatedOf, sharedOf, sliderBonus, smallDistNerf, stepOf, turnsOf, valueOf as flashlightValueOf}
 use Rattle.eval_values.specs.Values.{valuesOf}
@@ -70,5 +70,5 @@ printed =
 
 -- the definitions named here are those that the computation runs through
 pub two-circles : listText twoCircles ≡ printed
-unfolding little add climb div eq le lt mul ne neg odd ofBits ofFields ofInt rem round size span sub sum toBits toSigned absOf clampOf maxOf minOf f32At f64At u32At u64At rootDrop rootKept rootOf ceilOf truncOf logBits logOf expOf log10Of powerOf powerOther twoOf twoRoot twoRound lengthOf badFields falls fieldsAt fieldsOf fieldsOk firstBelow firstFrom badEntries lengthOk nestedAt baseOf repeatsOf countBelow endPos kindOf lastBelow listFrom objectOf osuObject repeatCount runsOf countsOk headerOk layoutOf offsetsOk reservedOk settingsAt settingsOk tooLong doubletapness fadeIn fadeOut angleTo endCursor jumpDist jumpFrom jumpOf lastCursor minJumpDist minJumpTime newRecord placedOf plainOf objectRecordOf millisecondsToBpm reverseLerp smootherstep aimOf allParts anglesOf distBonus speedAtPlace speedBonus speedOf strainTime travelBefore cellOf rhythmAtPlace rhythmOf runOf startFrom startOf rhythmValueOf factorOf fasterTwice rhythmFreshState freshWalk lastRatio progressedOf addedOf evaluatorOf flashlightOf flashlightFreshState hiddenOf opacityBonus repeatedOf sharedOf sliderBonus smallDistNerf stepOf turnsOf flashlightValueOf valuesOf insert sortDesc base closeOne closeTo column current elapsed initialStrain joined multiplier peaksTo reached strainAt strainDecay strainNext strains total totalTo walk clamped difficultyOf difficultyValue lerp positives reduced reduction sumFrom weighted decimalText decimalUpTo digit f64Text hexText countText numberText numbersText placeText refusalText skillsText totalsText deltaAt startAt chartRecord totalsOf ifAccepted freshValues bodyConditions chartConditions firstOf afreshText beyondText chartText listText metText openedText placesText
+unfolding little add climb div eq le lt mul ne neg odd ofBits ofFields ofInt rem round size span sub sum toBits toSigned absOf clampOf maxOf minOf f32At f64At u32At u64At rootDrop rootKept rootOf ceilOf truncOf logBits logOf expOf log10Of powerOf powerOther twoOf twoRoot twoRound lengthOf badFields falls fieldsAt fieldsOf fieldsOk firstBelow firstFrom badEntries lengthOk nestedAt baseOf repeatsOf countBelow endPos kindOf lastBelow listFrom objectOf osuObject repeatCount runsOf countsOk headerOk layoutOf offsetsOk reservedOk settingsAt settingsOk tooLong doubletapness fadeIn fadeOut angleTo endCursor jumpDist jumpFrom jumpOf lastCursor minJumpDist minJumpTime newRecord placedOf plainOf objectRecordOf millisecondsToBpm reverseLerp smootherstep aimOf allParts anglesOf distBonus speedBonus speedOf strainTime speedBy cellOf rhythmBy runOf startFrom startOf rhythmValueOf factorOf fasterTwice rhythmFreshState freshWalk lastRatio progressedOf addedOf evaluatorOf flashlightOf flashlightFreshState hiddenOf opacityBonus repeatedOf sharedOf sliderBonus smallDistNerf stepOf turnsOf flashlightValueOf valuesOf insert sortDesc base closeOne closeTo column current elapsed initialStrain joined multiplier peaksTo reached strainAt strainDecay strainNext strains total totalTo walk clamped difficultyOf difficultyValue lerp positives reduced reduction sumFrom weighted decimalText decimalUpTo digit f64Text hexText countText numberText numbersText placeText refusalText skillsText totalsText deltaAt startAt chartRecord totalsOf ifAccepted freshValues bodyConditions chartConditions firstOf afreshText beyondText chartText listText metText openedText placesText
 two-circles = refl
