@@ -9,16 +9,16 @@ use Rattle.chart_fields.specs.declared.Layout.{Layout}
 use Rattle.num_tables.specs.Parts.{row}
 use Rattle.skills.specs.declared.Skill.{Skill}
 use Rattle.skills.specs.declared.Skills.{Skills}
-use Rattle.skills.specs.Strains.{room, peaksTo, strainAt, totalTo, total}
+use Rattle.skills.specs.Strains.{peaksTo, strainAt, totalTo, total}
 
 -- the chart holds what the layout says, and the table has a row for each place
 pub record Readable (s : List ℕ) (lay : Layout) (values : List Float) : Type 0 where
   pub holds : Holds s lay
   pub rows : 5 * lay .n ≤ length values
 
--- scratch for the peaks of all sections: those that are closed before the last, and the last
+-- "scratch below 8,192 numbers per skill": room for the sections that are closed before the last, and for the last
 abbrev pub Roomy : List Float → Type 0
-Roomy scratch = suc room ≤ length scratch
+Roomy scratch = 8192 ≤ length scratch
 
 module _ (s : List ℕ) (lay : Layout) (clock : Float) where
   -- object.rs, start_time; 0 at place 0, which has no record
