@@ -7,12 +7,15 @@ ghost use Rattle.num_sort.specs.Sort.{AllPos};
 ghost use Rattle.skills.specs.Value as value;
 use crate::Skill;
 
+// How many of the largest peaks are reduced, and to what share the largest is.
 const REDUCED_SECTION_COUNT: usize = 10;
 
 const REDUCED_STRAIN_BASELINE: f64 = 0.75;
 
+// The weight of a peak by that of the next larger one.
 const DECAY_WEIGHT: f64 = 0.9;
 
+// From start to end by an amount, which 1 brings to the end (skills/strain.rs).
 fn lerp(start: f64, end: f64, amount: f64) -> f64
     ensures { λ r. ⌜ r ≡ value.lerp start end amount ⌝ }
 {
@@ -110,7 +113,7 @@ fn value_of_positive(a: &mut [f64], tmp: &mut [f64], count: usize) -> f64
     weighted_sum(a)
 }
 
-// What the slices hold afterwards is not said.
+// The value of the peaks, `count` of them reduced. What the slices hold afterwards is not said.
 fn difficulty_value(peaks: &mut [f64], tmp: &mut [f64], count: usize) -> f64
     requires { ⌜ (length (now peaks) ≤ length (now tmp)) × (count < 65536) ⌝ }
     ensures { λ r. ⌜ r ≡ value.difficultyValue count (now (peaks .entry)) ⌝ }
