@@ -250,7 +250,7 @@ window-spec 𝓤 H 𝓜 𝓖 𝓡 =
     entered 𝓤 H (tripleOf 𝓤 H (𝓖 .A) f.signature (f.spec 𝓤 H (𝓖 .A) (𝓜 .mem) (𝓡 .run)))
     (tables 𝓤 H 𝓜 𝓡 code.env .C) (tables 𝓤 H 𝓜 𝓡 code.env .Λ) #outer·window code.function (code.unfolded 𝓤 H 𝓜 𝓡)
     (window-meets 𝓤 H (𝓖 .A) (givenOf 𝓤 H 𝓜 𝓖) (𝓜 .mem) (𝓡 .run) (tablesOf 𝓤 H 𝓜 (tables 𝓤 H 𝓜 𝓡 code.env)) (record {
-      of-nth = cited 𝓤 H (Of 𝓤 H (𝓖 .A) nth.ended (nth.clauses 𝓤 H (𝓖 .A) (𝓜 .mem) (𝓡 .run))) 𝓜 𝓡 code.env #outer·nth nth-def.routine code.calls-outer·nth (nth-thm.met 𝓤 H 𝓜 𝓖 𝓡);
-      of-first-index = cited 𝓤 H (Of 𝓤 H (𝓖 .A) first-index.ended (first-index.clauses 𝓤 H (𝓖 .A) (𝓜 .mem) (𝓡 .run))) 𝓜 𝓡 code.env #outer·first-index first-index-def.routine code.calls-outer·first-index (first-index-thm.met 𝓤 H 𝓜 𝓖 𝓡);
-      of-repeated = cited 𝓤 H (Of 𝓤 H (𝓖 .A) repeated.ended (repeated.clauses 𝓤 H (𝓖 .A) (𝓜 .mem) (𝓡 .run))) 𝓜 𝓡 code.env #outer·repeated repeated-def.routine code.calls-outer·repeated (repeated-thm.met 𝓤 H 𝓜 𝓖 𝓡);
+      of-nth = cited 𝓤 H (Of 𝓤 H (𝓖 .A) nth.ended (nth.clauses 𝓤 H (𝓖 .A) (𝓜 .mem) (𝓡 .run))) 𝓜 𝓡 code.env #outer·nth nth-def.routine code.calls-eval-outer·nth (nth-thm.met 𝓤 H 𝓜 𝓖 𝓡);
+      of-first-index = cited 𝓤 H (Of 𝓤 H (𝓖 .A) first-index.ended (first-index.clauses 𝓤 H (𝓖 .A) (𝓜 .mem) (𝓡 .run))) 𝓜 𝓡 code.env #outer·first-index first-index-def.routine code.calls-eval-outer·first-index (first-index-thm.met 𝓤 H 𝓜 𝓖 𝓡);
+      of-repeated = cited 𝓤 H (Of 𝓤 H (𝓖 .A) repeated.ended (repeated.clauses 𝓤 H (𝓖 .A) (𝓜 .mem) (𝓡 .run))) 𝓜 𝓡 code.env #outer·repeated repeated-def.routine code.calls-eval-outer·repeated (repeated-thm.met 𝓤 H 𝓜 𝓖 𝓡);
     }))

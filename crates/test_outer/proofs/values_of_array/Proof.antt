@@ -266,10 +266,10 @@ values-of-array-spec 𝓤 H 𝓜 𝓖 𝓡 =
     entered 𝓤 H (tripleOf 𝓤 H (𝓖 .A) f.signature (f.spec 𝓤 H (𝓖 .A) (𝓜 .mem) (𝓡 .run)))
     (tables 𝓤 H 𝓜 𝓡 code.env .C) (tables 𝓤 H 𝓜 𝓡 code.env .Λ) #outer_main·values-of-array code.function (code.unfolded 𝓤 H 𝓜 𝓡)
     (values-of-array-meets 𝓤 H (𝓖 .A) (givenOf 𝓤 H 𝓜 𝓖) (𝓜 .mem) (𝓡 .run) (tablesOf 𝓤 H 𝓜 (tables 𝓤 H 𝓜 𝓡 code.env)) (record {
-      of-light = cited 𝓤 H (Of 𝓤 H (𝓖 .A) light-fn.ended (light-fn.clauses 𝓤 H (𝓖 .A) (𝓜 .mem) (𝓡 .run))) 𝓜 𝓡 code.env #flashlight·evaluator-of light-def.routine code.calls-flashlight·evaluator-of (light-thm.met 𝓤 H 𝓜 𝓖 𝓡);
-      of-aim = cited 𝓤 H (Of 𝓤 H (𝓖 .A) aim.ended (aim.clauses 𝓤 H (𝓖 .A) (𝓜 .mem) (𝓡 .run))) 𝓜 𝓡 code.env #outer·evaluate-aim aim-def.routine code.calls-outer·evaluate-aim (aim-thm.met 𝓤 H 𝓜 𝓖 𝓡);
-      of-speed = cited 𝓤 H (Of 𝓤 H (𝓖 .A) speed.ended (speed.clauses 𝓤 H (𝓖 .A) (𝓜 .mem) (𝓡 .run))) 𝓜 𝓡 code.env #outer·evaluate-speed speed-def.routine code.calls-outer·evaluate-speed (speed-thm.met 𝓤 H 𝓜 𝓖 𝓡);
-      of-rhythm = cited 𝓤 H (Of 𝓤 H (𝓖 .A) rhythm.ended (rhythm.clauses 𝓤 H (𝓖 .A) (𝓜 .mem) (𝓡 .run))) 𝓜 𝓡 code.env #outer·evaluate-rhythm rhythm-def.routine code.calls-outer·evaluate-rhythm (rhythm-thm.met 𝓤 H 𝓜 𝓖 𝓡);
-      of-flashlight = cited 𝓤 H (Of 𝓤 H (𝓖 .A) flashlight.ended (flashlight.clauses 𝓤 H (𝓖 .A) (𝓜 .mem) (𝓡 .run))) 𝓜 𝓡 code.env #outer·evaluate-flashlight flashlight-def.routine code.calls-outer·evaluate-flashlight (flashlight-thm.met 𝓤 H 𝓜 𝓖 𝓡);
-      of-gathered = cited 𝓤 H (Of 𝓤 H (𝓖 .A) gathered.ended (gathered.clauses 𝓤 H (𝓖 .A) (𝓜 .mem) (𝓡 .run))) 𝓜 𝓡 code.env #outer_main·gathered gathered-def.routine code.calls-outer-main·gathered (gathered-thm.met 𝓤 H 𝓜 𝓖 𝓡);
+      of-light = cited 𝓤 H (Of 𝓤 H (𝓖 .A) light-fn.ended (light-fn.clauses 𝓤 H (𝓖 .A) (𝓜 .mem) (𝓡 .run))) 𝓜 𝓡 code.env #flashlight·evaluator-of light-def.routine code.calls-eval-flashlight·evaluator-of (light-thm.met 𝓤 H 𝓜 𝓖 𝓡);
+      of-aim = cited 𝓤 H (Of 𝓤 H (𝓖 .A) aim.ended (aim.clauses 𝓤 H (𝓖 .A) (𝓜 .mem) (𝓡 .run))) 𝓜 𝓡 code.env #outer·evaluate-aim aim-def.routine code.calls-eval-outer·evaluate-aim (aim-thm.met 𝓤 H 𝓜 𝓖 𝓡);
+      of-speed = cited 𝓤 H (Of 𝓤 H (𝓖 .A) speed.ended (speed.clauses 𝓤 H (𝓖 .A) (𝓜 .mem) (𝓡 .run))) 𝓜 𝓡 code.env #outer·evaluate-speed speed-def.routine code.calls-eval-outer·evaluate-speed (speed-thm.met 𝓤 H 𝓜 𝓖 𝓡);
+      of-rhythm = cited 𝓤 H (Of 𝓤 H (𝓖 .A) rhythm.ended (rhythm.clauses 𝓤 H (𝓖 .A) (𝓜 .mem) (𝓡 .run))) 𝓜 𝓡 code.env #outer·evaluate-rhythm rhythm-def.routine code.calls-eval-outer·evaluate-rhythm (rhythm-thm.met 𝓤 H 𝓜 𝓖 𝓡);
+      of-flashlight = cited 𝓤 H (Of 𝓤 H (𝓖 .A) flashlight.ended (flashlight.clauses 𝓤 H (𝓖 .A) (𝓜 .mem) (𝓡 .run))) 𝓜 𝓡 code.env #outer·evaluate-flashlight flashlight-def.routine code.calls-eval-outer·evaluate-flashlight (flashlight-thm.met 𝓤 H 𝓜 𝓖 𝓡);
+      of-gathered = cited 𝓤 H (Of 𝓤 H (𝓖 .A) gathered.ended (gathered.clauses 𝓤 H (𝓖 .A) (𝓜 .mem) (𝓡 .run))) 𝓜 𝓡 code.env #outer_main·gathered gathered-def.routine code.calls-test-outer·gathered (gathered-thm.met 𝓤 H 𝓜 𝓖 𝓡);
     }))
