@@ -36,7 +36,7 @@ slice-aggregate-put-within-6 c = search needs
 put-within-requires : tie.Need-put-within-requires
 put-within-requires c κs = (
   (omega arith, record { records-room = omega arith; values-room = omega arith }),
-  record { aim-room = omega arith; still-room = omega arith; speed-room = omega arith; light-room = omega arith },
+  record { aim-room = omega arith; no-sliders-room = omega arith; speed-room = omega arith; flashlight-room = omega arith },
 )
 
 same-length-2 : tie.Need-same-length-2
