@@ -95,7 +95,7 @@ class Command(unittest.TestCase):
                 os.makedirs(self.at("crates", crate, part))
         self.write("crates.txt", CRATES)
         self.write("lines", LINES)
-        self.write("crates/num_floats/src/lib.rt", "")
+        self.write("crates/floats/src/lib.rt", "")
         self.write("a.chart", "any bytes")
         os.mkdir(self.at("kit"))
         self.write("kit/rt", RT)
