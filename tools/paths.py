@@ -3,7 +3,7 @@
 
     paths.py SHIM CRATE
 
-SHIM is the folder of the oracle's stand-ins (rosu_map.rs, number.rs); a small Rust program made around them answers every lookup. CRATE/stdin and
+SHIM is the oracle's folder of that name (rosu_map.rs, number.rs); a small Rust program made around them answers every lookup. CRATE/stdin and
 CRATE/stdout are written. Needs rustc.
 """
 import math

@@ -145,7 +145,8 @@ pub fn evaluate_place(
     autopilot: bool,
 ) -> f64
     requires { ⌜ Holds (now chart) lay × (1 ≤ j) × (j < lay .n) × (16 * lay .n ≤ length (now t)) ⌝ }
-    ensures { λ r. ⌜ r ≡ speedAtPlace (objectOf (now (chart .entry)) lay) (recordAt (now (t .entry))) (lastPlace j (lay .n)) j «hit_window» autopilot ⌝ }
+    ensures { λ r. ⌜ r
+        ≡ speedAtPlace (objectOf (now (chart .entry)) lay) (recordAt (now (t .entry))) (lastPlace j (lay .n)) j «hit_window» autopilot ⌝ }
 {
     let part = osu_records::part_of(j, lay.n);
     let from = 16 * part.first;

@@ -244,7 +244,8 @@ pub fn strains_into(
     out: &mut [f64],
 )
     requires { ⌜ (Readable (now chart) lay (now values)) × (lay .n ≤ length (now out)) ⌝ }
-    ensures { λ _. ⌜ now (out .exit) ≡ fill 1 (strainRow (now (chart .entry)) lay clock (now (values .entry)) skill) 1 (lay .n - 1) (now (out .entry)) ⌝ }
+    ensures { λ _. ⌜ now (out .exit)
+        ≡ fill 1 (strainRow (now (chart .entry)) lay clock (now (values .entry)) skill) 1 (lay .n - 1) (now (out .entry)) ⌝ }
 {
     let n = lay.n;
     if n < 2 {
