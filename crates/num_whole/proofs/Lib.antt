@@ -1,6 +1,7 @@
 pub mod Signs
 pub mod Sized
-pub mod Add52
+pub mod OfValue
+pub mod ByClass
 pub mod Rest
 pub mod NarrowRanges
 pub mod NarrowFast

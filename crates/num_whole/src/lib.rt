@@ -1,13 +1,14 @@
 // f64 to f32, whole parts and remainders of an f64, and f64 to i32.
 ghost use mathlib.Core.Path.{_≡_};
-ghost use Prim.Native.Nat.{_^_, _<_};
+ghost use Prim.Native.Nat.{_%_, _^_, _<_};
 ghost use lib.Ieee as Ieee;
 ghost use lib.Ieee.{binary32, binary64};
 ghost use lib.Ieee.Nearest.{closest};
 ghost use lib.Dec.{T};
 ghost use Rattle.num_floats.specs.Numbers.{one64, two64};
 ghost use Rattle.num_whole.specs.Narrow.{narrow, Narrowed};
-ghost use Rattle.num_whole.specs.Whole.{truncOf, floorOf, ceilOf, toI32, Small, clear};
+ghost use Rattle.num_whole.specs.Whole.{truncOf, floorOf, ceilOf, toI32, clear};
+ghost use Rattle.num_whole.specs.Classes.{InClass, TowardZero, Away};
 
 // ---- f64 to f32, from the bits
 
@@ -108,25 +109,76 @@ pub fn f64_to_f32(x: f64) -> f32
     }
 }
 
-// ---- whole parts, by adding and taking off 2^52
+// ---- whole parts, by class
 
-// a without its fraction, for an a from 0 to below 2^52. The sum with 2^52 is rounded to a whole
-// number, and taking 2^52 off is exact.
-fn whole_below(a: f64) -> f64
-    requires { ⌜ Small a ⌝ }
-    ensures { λ r. ⌜ r ≡ truncOf binary64 a ⌝ }
-{
-    let t = a + num_floats::TWO_52 - num_floats::TWO_52;
-    if a < t { t - 1.0 } else { t }
+// A pattern of binary64 is a sign, the exponent's field E of 11 bits and the digits' field T of 52
+// (IEEE 754-2019, 3.4); p is 53, and emax, which is the bias of E, is 1023 (3.3). So this is the field of 1,
+const FIELD_OF_ONE: u64 = 1023;
+
+// this, the bias and p - 1, is the first one where the last digit weighs 1,
+const FIELD_OF_WHOLE: u64 = 1075;
+
+// and this is all ones.
+const FIELD_OF_ONES: u64 = 2047;
+
+// What a pattern stands for, by its fields, with the clause of IEEE 754-2019 that says so.
+enum Class {
+    // 3.4 a): E is all ones, and T is not 0.
+    Nan,
+    // 3.4 b): E is all ones, and T is 0.
+    Infinite,
+    // 3.4 e): E is 0, and T is 0.
+    Zero,
+    // 3.4 d): E is 0, and T is not: 2^-1022 × (T × 2^-52).
+    // 3.4 c): E is below 1023: 2^(E - 1023) × (1 + T × 2^-52), where the sum is below 2.
+    BelowOne,
+    // 3.4 c): E is from 1023 to 1074: (2^52 + T) / 2^(1075 - E), so that the lowest 1075 - E bits are the
+    // fraction. Held is 2^(1075 - E), the bit of the pattern that weighs 1.
+    Mixed(u64),
+    // 3.4 c): E is from 1075 to 2046: (2^52 + T) × 2^(E - 1075), which has no fraction.
+    Whole,
 }
 
-// The smallest whole number that is no less than a, for an a from 0 to below 2^52.
-fn whole_above(a: f64) -> f64
-    requires { ⌜ Small a ⌝ }
-    ensures { λ r. ⌜ r ≡ ceilOf binary64 a ⌝ }
+// The class of c, a pattern without its sign.
+fn class_of(c: u64) -> Class
+    requires { ⌜ c < 2 ^ 63 ⌝ }
+    ensures { λ r. ⌜ InClass c r ⌝ }
 {
-    let w = whole_below(a);
-    if w < a { w + 1.0 } else { w }
+    let field = c / num_floats::FIELD;
+    if field < FIELD_OF_WHOLE {
+        if FIELD_OF_ONE <= field {
+            Class::Mixed(power_of_two(FIELD_OF_WHOLE - field))
+        } else if c == 0 {
+            Class::Zero
+        } else {
+            Class::BelowOne
+        }
+    } else if field < FIELD_OF_ONES {
+        Class::Whole
+    } else if c % num_floats::FIELD == 0 {
+        Class::Infinite
+    } else {
+        Class::Nan
+    }
+}
+
+// The whole number next to a Mixed one toward zero, from the pattern b: the fraction's bits are cleared,
+// and the sign, the highest bit, stays.
+fn toward_zero(b: u64, unit: u64) -> f64
+    requires { ⌜ InClass (b % 2 ^ 63) (Class.Mixed unit) ⌝ }
+    ensures { λ r. ⌜ TowardZero b r ⌝ }
+{
+    f64::from_bits(b - b % unit)
+}
+
+// The whole number next to a Mixed one away from zero, which is itself where it is whole. A carry out of T
+// adds one to E and leaves T at 0: the next power of two.
+fn away(b: u64, unit: u64) -> f64
+    requires { ⌜ InClass (b % 2 ^ 63) (Class.Mixed unit) ⌝ }
+    ensures { λ r. ⌜ Away b r ⌝ }
+{
+    let up = b + (unit - 1);
+    f64::from_bits(up - up % unit)
 }
 
 // x without its fraction.
@@ -134,12 +186,10 @@ pub fn trunc(x: f64) -> f64
     ensures { λ r. ⌜ r ≡ truncOf binary64 x ⌝ }
 {
     let b = num_floats::bits_of_f64(x);
-    let a = num_floats::f64_of_bits(b % num_floats::SIGN);
-    if a < num_floats::TWO_52 {
-        let w = whole_below(a);
-        if b < num_floats::SIGN { w } else { -w }
-    } else {
-        x
+    match class_of(b % num_floats::SIGN) {
+        Class::BelowOne => if b < num_floats::SIGN { 0.0 } else { -0.0 },
+        Class::Mixed(unit) => toward_zero(b, unit),
+        Class::Nan | Class::Infinite | Class::Zero | Class::Whole => x,
     }
 }
 
@@ -148,15 +198,14 @@ pub fn floor(x: f64) -> f64
     ensures { λ r. ⌜ r ≡ floorOf binary64 x ⌝ }
 {
     let b = num_floats::bits_of_f64(x);
-    let a = num_floats::f64_of_bits(b % num_floats::SIGN);
-    if a < num_floats::TWO_52 {
-        if b < num_floats::SIGN {
-            whole_below(a)
+    match class_of(b % num_floats::SIGN) {
+        Class::BelowOne => if b < num_floats::SIGN { 0.0 } else { -1.0 },
+        Class::Mixed(unit) => if b < num_floats::SIGN {
+            toward_zero(b, unit)
         } else {
-            -whole_above(a)
-        }
-    } else {
-        x
+            away(b, unit)
+        },
+        Class::Nan | Class::Infinite | Class::Zero | Class::Whole => x,
     }
 }
 
@@ -165,15 +214,14 @@ pub fn ceil(x: f64) -> f64
     ensures { λ r. ⌜ r ≡ ceilOf binary64 x ⌝ }
 {
     let b = num_floats::bits_of_f64(x);
-    let a = num_floats::f64_of_bits(b % num_floats::SIGN);
-    if a < num_floats::TWO_52 {
-        if b < num_floats::SIGN {
-            whole_above(a)
+    match class_of(b % num_floats::SIGN) {
+        Class::BelowOne => if b < num_floats::SIGN { 1.0 } else { -0.0 },
+        Class::Mixed(unit) => if b < num_floats::SIGN {
+            away(b, unit)
         } else {
-            -whole_below(a)
-        }
-    } else {
-        x
+            toward_zero(b, unit)
+        },
+        Class::Nan | Class::Infinite | Class::Zero | Class::Whole => x,
     }
 }
 
