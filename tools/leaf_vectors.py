@@ -60,6 +60,13 @@ def singles(r):
     return out + near(3.4028235677973366e38) + near(3.4028234663852886e38)
 
 
+def bounds():
+    """Both sides of every class of the whole parts and of every power of two up to 2^53, where a ceil carries into the next exponent; both signs."""
+    sizes = [0.0] + near(real(1)) + near(real(0x000FFFFFFFFFFFFF)) + near(0.5) + [y for k in range(54) for y in near(2.0**k)]
+    sizes += [1.5, 2.5, 2.0**51 + 0.5, 2.0**52 - 1.5] + near(real(0x7FEFFFFFFFFFFFFF))
+    return [s * x for x in dict.fromkeys(sizes) for s in (1.0, -1.0)] + [NAN]
+
+
 def calls(r):
     """(letter, name of the oracle's function or None, arguments)"""
     v = []
@@ -96,7 +103,7 @@ def calls(r):
         a, w = r.uniform(-50, 300), r.uniform(1, 200)
         v += [("b", None, (abs(a) + 1,)), ("B", None, (abs(a) + 1,)), ("l", None, (a, 10.0, 10.0 + w)), ("s", None, (a, 10.0, 10.0 + w)),
               ("S", None, (a, 10.0, 10.0 + w)), ("k", None, (a, 100.0, w)), ("L", None, (a / 100, 0.88, 10.0))]
-    return v
+    return v + [(f, None, (x,)) for x in bounds() for f in "tfc"]
 
 
 def whole(x, f):
