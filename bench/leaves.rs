@@ -14,6 +14,8 @@ extern "C" {
     fn rattle_angle(dot: f64, det: f64) -> f64;
     fn rattle_f64_to_f32(x: f64) -> f32;
     fn rattle_trunc(x: f64) -> f64;
+    fn rattle_floor(x: f64) -> f64;
+    fn rattle_ceil(x: f64) -> f64;
     fn rattle_to_i32(x: f64) -> i32;
 }
 
@@ -77,6 +79,8 @@ fn main() {
         measure("angle", &directions, |(x, y)| rattle_angle(x, y).to_bits(), |(x, y)| plain::angle(x, y).to_bits());
         measure("f64 to f32", &positive, |x| rattle_f64_to_f32(x).to_bits() as u64, |x| (x as f32).to_bits() as u64);
         measure("trunc", &positive, |x| rattle_trunc(x).to_bits(), |x| x.trunc().to_bits());
+        measure("floor", &positive, |x| rattle_floor(x).to_bits(), |x| x.floor().to_bits());
+        measure("ceil", &positive, |x| rattle_ceil(x).to_bits(), |x| x.ceil().to_bits());
         measure("to i32", &positive, |x| rattle_to_i32(x) as u64, |x| x as i32 as u64);
     }
 }

@@ -60,6 +60,18 @@ pub extern "C" fn rattle_trunc(x: f64) -> f64 {
     num_whole::trunc(x)
 }
 
+// The largest whole number that is no more than x.
+#[no_mangle]
+pub extern "C" fn rattle_floor(x: f64) -> f64 {
+    num_whole::floor(x)
+}
+
+// The smallest whole number that is no less than x.
+#[no_mangle]
+pub extern "C" fn rattle_ceil(x: f64) -> f64 {
+    num_whole::ceil(x)
+}
+
 // The whole part as an i32, held to its range.
 #[no_mangle]
 pub extern "C" fn rattle_to_i32(x: f64) -> i32 {
