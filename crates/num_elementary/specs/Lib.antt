@@ -1,5 +1,6 @@
 pub mod Log
 pub mod Two
+pub mod Roots
 pub mod Power
 pub mod Signed
 pub mod Significand

@@ -9,7 +9,8 @@ ghost use lib.Ieee as Ieee;
 ghost use lib.Ieee.{fin, odd};
 ghost use lib.Ieee.Positive.{positive};
 ghost use Rattle.num_elementary.specs.Log.{logBits, logOf};
-ghost use Rattle.num_elementary.specs.Two.{twoRoot, twoBits, twoRound, twoAt, floorZ, twoOf};
+ghost use Rattle.num_elementary.specs.Two.{twoBits, twoRound, twoAt, floorZ, twoOf};
+ghost use Rattle.num_elementary.specs.Roots.{twoRoots};
 ghost use Rattle.num_elementary.specs.Power.{powerOfZero, powerOther, powerOf, expOf, log10Of};
 
 // 1 and 2 as M and P of Log and Two have them, in units of 2^-62.
@@ -38,7 +39,7 @@ const LOG2_E: f64 = 1.4426950408889634;
 const LOG10_2: f64 = 0.3010299956639812;
 
 // floor(a * b / 2^62), by digits of 31 bits: each column of products fits 64 bits.
-fn mul_shift62(a: u64, b: u64) -> u64
+pub fn mul_shift62(a: u64, b: u64) -> u64
     requires { ⌜ (a < 2 ^ 63) × (b < 2 ^ 63) ⌝ }
     ensures { λ r. ⌜ r ≡ a * b / 2 ^ 62 ⌝ }
 {
@@ -103,66 +104,69 @@ fn log(b: f64) -> i64
     log_scaled(p.digits, p.exponent)
 }
 
-// T(j) for j from 1 to 40: T(j+1) is the largest t with t * t <= T(j) * 2^62. A match is compiled to a table in
-// read-only data, where a constant array is written to the stack at each use.
-fn two_root(j: usize) -> u64
-    requires { ⌜ (0 < j) × (j < 41) ⌝ }
-    ensures { λ r. ⌜ r ≡ twoRoot j ⌝ }
+// T(1) to T(40): T(0) is 2^63, and T(j+1) the largest t with t * t <= T(j) * 2^62. Crate `num_two_table` works them out.
+const ROOTS: [u64; 40] = [
+    0x5A82_7999_FCEF_3242,
+    0x4C1B_F828_C6DC_54B7,
+    0x45CA_E0F1_F545_EB73,
+    0x42D5_61B3_E624_3D8A,
+    0x4166_C34C_5615_D0EB,
+    0x40B2_68F9_DE01_83B9,
+    0x4058_F6A7_ECCC_D5B5,
+    0x402C_6BE9_6AF2_FB57,
+    0x4016_321B_6870_27A7,
+    0x400B_1817_8BA3_3B13,
+    0x4005_8BCE_4101_47E7,
+    0x4002_C5D7_BFF7_1DAD,
+    0x4001_62E8_07EE_7E5A,
+    0x4000_B173_0DF6_A523,
+    0x4000_58B9_497B_8151,
+    0x4000_2C5C_955D_D700,
+    0x4000_162E_46D6_F26B,
+    0x4000_0B17_2275_7B1A,
+    0x4000_058B_90FD_3E0B,
+    0x4000_02C5_C86F_3F25,
+    0x4000_0162_E433_C79A,
+    0x4000_00B1_7218_EDCF,
+    0x4000_0058_B90C_3968,
+    0x4000_002C_5C86_0D54,
+    0x4000_0016_2E43_02D2,
+    0x4000_000B_1721_8073,
+    0x4000_0005_8B90_BFFC,
+    0x4000_0002_C5C8_5FEE,
+    0x4000_0001_62E4_2FF3,
+    0x4000_0000_B172_17F8,
+    0x4000_0000_58B9_0BFB,
+    0x4000_0000_2C5C_85FD,
+    0x4000_0000_162E_42FE,
+    0x4000_0000_0B17_217E,
+    0x4000_0000_058B_90BE,
+    0x4000_0000_02C5_C85E,
+    0x4000_0000_0162_E42E,
+    0x4000_0000_00B1_7216,
+    0x4000_0000_0058_B90A,
+    0x4000_0000_002C_5C84,
+];
+
+// T(1) to T(40).
+pub fn roots() -> [u64; 40]
+    ensures { λ r. ⌜ r ≡ twoRoots 40 ⌝ }
 {
-    match j {
-        1 => 6521908912666391106,
-        2 => 5484249825272419511,
-        3 => 5029079263719320435,
-        4 => 4815862801830788490,
-        5 => 4712668792719003883,
-        6 => 4661903986662671289,
-        7 => 4636727017470743989,
-        8 => 4624189567668517719,
-        9 => 4617933561212708775,
-        10 => 4614808732577250067,
-        11 => 4613247111281068007,
-        12 => 4612466498810092973,
-        13 => 4612076242109103706,
-        14 => 4611881126141011235,
-        15 => 4611783571252412753,
-        16 => 4611734794581956352,
-        17 => 4611710406440186475,
-        18 => 4611698212417665818,
-        19 => 4611692115418496523,
-        20 => 4611689066921934629,
-        21 => 4611687542674409370,
-        22 => 4611686780550835663,
-        23 => 4611686399489096040,
-        24 => 4611686208958238036,
-        25 => 4611686113692811986,
-        26 => 4611686066060099699,
-        27 => 4611686042243743740,
-        28 => 4611686030335565806,
-        29 => 4611686024381476851,
-        30 => 4611686021404432376,
-        31 => 4611686019915910139,
-        32 => 4611686019171649021,
-        33 => 4611686018799518462,
-        34 => 4611686018613453182,
-        35 => 4611686018520420542,
-        36 => 4611686018473904222,
-        37 => 4611686018450646062,
-        38 => 4611686018439016982,
-        39 => 4611686018433202442,
-        _ => 4611686018430295172,
-    }
+    ROOTS
 }
 
 // P of Two for the fraction f / 2^40: 2^62 times the roots T(j) at whose place f has a bit. Only the bits that are set take a
-// turn: where they stand does not wait for P, and no branch but the last depends on them.
+// turn: where they stand does not wait for P, and no branch but the last depends on them. A constant array is written to the
+// stack at each use, so it is taken once, before the loop.
 fn two_bits(f: u64) -> u64
     ensures { λ r. ⌜ (r ≡ twoBits 40 f (2 ^ 62)) × (2 ^ 62 ≤ r) × (r < 2 ^ 63) ⌝ }
 {
+    let table = roots();
     let mut p: u64 = ONE;
     let mut rest = f % TWO_40;
     while 0 < rest {
         let k = (63 - u64::leading_zeros(rest)) as usize;
-        p = mul_shift62(p, two_root(40 - k));
+        p = mul_shift62(p, table[39 - k]);
         rest -= 1 << k;
     }
     p

@@ -4,12 +4,15 @@ use native.Mathlib.Omega.{arith}
 use native.Mathlib.Nat.{le-trans, lt-trans, one-mul, mul-le-mul-left, mod-eq-of-lt, pow-succ'}
 use Prim.Native.Nat.{ℕ, suc, _+_, _≤_, _<_, _-_, _*_, _/_, _%_, _^_}
 use mathlib.Core.Path.{_≡_, sym, ap, _∙_, subst}
+use mathlib.Core.List.{List}
 use lib.Dec.{lit<, lit≤}
+use lib.ListN.{getD}
 use lib.Pow.{pow-pos, pow-lt}
 use lib.Count.{leadingZeros}
 use lib.Ieee.{size}
 use lib.Ieee.Digits.{size-lt, size-reaches, size-le}
 use Rattle.num_elementary.specs.Two.{twoRoot, twoBits}
+use Rattle.num_elementary.specs.Roots.{twoRoots, roots-at}
 use Rattle.num_elementary.specs.Significand.{size-pos, size-zeros}
 use Rattle.num_elementary.specs.TwoLaws.{root-entry, p-below, turn-p, turn-small, turn-set, turn-grows}
 use Rattle.num_elementary.proofs.TwoSteps.{root-falls, bits-first, bits-rest, none-left}
@@ -17,10 +20,10 @@ use Rattle.num_elementary.proofs.two_bits.Statement.{statement}
 use Rattle.num_elementary.proofs.two_bits.Tie as tie
 
 abbrev Inv-loop : tie.InvT-loop
-Inv-loop f p₀ rest₀ p rest = (rest < 2 ^ 40) × (2 ^ 62 ≤ p) × (p * twoRoot (40 - size rest) ≤ 2 ^ 125) × (twoBits 40 rest p ≡ twoBits 40 f (2 ^ 62))
+Inv-loop f table p₀ rest₀ p rest = (rest < 2 ^ 40) × (2 ^ 62 ≤ p) × (p * twoRoot (40 - size rest) ≤ 2 ^ 125) × (twoBits 40 rest p ≡ twoBits 40 f (2 ^ 62))
 
 abbrev μ-loop : tie.MeasureT-loop
-μ-loop f p₀ rest₀ p rest = rest
+μ-loop f table p₀ rest₀ p rest = rest
 
 -- the highest bit of what is left
 module _ (r : ℕ) (some : 0 < r) (few : r < 2 ^ 40) where
@@ -46,6 +49,12 @@ module _ (r : ℕ) (some : 0 < r) (few : r < 2 ^ 40) where
   left =
       let most : r < 2 ^ suc place = subst (λ (n : ℕ). r < 2 ^ n) digits (size-lt r) in
       omega (arith, most, pow-succ' 2 place, least)
+
+  -- the table's entry there
+  entry : (table : List ℕ) → table ≡ twoRoots 40 → getD table (39 - place) 0 ≡ twoRoot (40 - place)
+  entry table e =
+      let next : suc (39 - place) ≡ 40 - place = omega (arith, here) in
+      ap (λ (l : List ℕ). getD l (39 - place) 0) e ∙ (roots-at 40 (39 - place) (omega arith) ∙ ap twoRoot next)
 
   -- the turn there, from P = p to P = next
   module _ (p : ℕ) (h : p * twoRoot (40 - size r) ≤ 2 ^ 125) where
@@ -83,9 +92,12 @@ module _ (r : ℕ) (some : 0 < r) (few : r < 2 ^ 40) where
         let e : 2 ^ place + (r - 2 ^ place) ≡ r = omega (arith, least) in
         sym (bits-first place (r - 2 ^ place) p here left) ∙ ap (λ (x : ℕ). twoBits 40 x p) e
 
+roots-requires : tie.Need-roots-requires Inv-loop μ-loop
+roots-requires c κs = search needs
+
 loop-holds : tie.Need-loop-holds Inv-loop μ-loop
 loop-holds c =
-    let f = c .args .f in (
+    let f = c .before .args .f in (
       omega arith,
       omega arith,
       le-trans (mul-le-mul-left (2 ^ 62) (root-entry (40 - size (f % 2 ^ 40)) (omega arith) .most)) (lit≤ tt),
@@ -98,40 +110,43 @@ sub-k c = let l = c .before .loop in omega (arith, zeros (l .rest) (c .loop-test
 cast-k : tie.Need-cast-k Inv-loop μ-loop
 cast-k c = search needs
 
-sub-two-root : tie.Need-sub-two-root Inv-loop μ-loop
-sub-two-root c = let l = c .before .loop in omega (arith, here (l .rest) (c .loop-test .taken) (l .inv .0))
+sub-mul-shift62 : tie.Need-sub-mul-shift62 Inv-loop μ-loop
+sub-mul-shift62 c = let l = c .before .loop in omega (arith, here (l .rest) (c .loop-test .taken) (l .inv .0))
 
-two-root-requires : tie.Need-two-root-requires Inv-loop μ-loop
-two-root-requires c κs = let l = c .before .loop in let h = here (l .rest) (c .loop-test .taken) (l .inv .0) in (omega (arith, h), omega arith)
+mul-mul-shift62 : tie.Need-mul-mul-shift62 Inv-loop μ-loop
+mul-mul-shift62 c = omega arith
+
+array-read-mul-shift62 : tie.Need-array-read-mul-shift62 Inv-loop μ-loop
+array-read-mul-shift62 c = omega arith
 
 mul-shift62-requires : tie.Need-mul-shift62-requires Inv-loop μ-loop
 mul-shift62-requires c κs =
-    let l = c .before .before .loop in
-    let t = c .before .loop-test .taken in
-    (p-fits (l .rest) t (l .inv .0) (l .p) (l .inv .2), subst (λ (x : ℕ). x < 2 ^ 63) (sym (c .two-root .ensures)) (root-fits (l .rest) t (l .inv .0) (l .p) (l .inv .2)))
+    let l = c .before .loop in
+    let t = c .loop-test .taken in
+    (p-fits (l .rest) t (l .inv .0) (l .p) (l .inv .2), subst (λ (x : ℕ). x < 2 ^ 63) (sym (entry (l .rest) t (l .inv .0) _ (c .before .before .roots .ensures))) (root-fits (l .rest) t (l .inv .0) (l .p) (l .inv .2)))
 
 shl-rest : tie.Need-shl-rest Inv-loop μ-loop
 shl-rest c = omega arith
 
 sub-rest : tie.Need-sub-rest Inv-loop μ-loop
 sub-rest c =
-    let l = c .before .before .before .loop in
-    let t = c .before .before .loop-test .taken in
+    let l = c .before .before .loop in
+    let t = c .before .loop-test .taken in
     subst (λ (x : ℕ). x ≤ l .rest) (sym (bit (l .rest) t (l .inv .0))) (least (l .rest) t (l .inv .0))
 
 loop-less : tie.Need-loop-less Inv-loop μ-loop
 loop-less c =
-    let l = c .before .before .before .loop in
-    let t = c .before .before .loop-test .taken in
+    let l = c .before .before .loop in
+    let t = c .before .loop-test .taken in
     subst (λ (x : ℕ). l .rest - x < l .rest) (sym (bit (l .rest) t (l .inv .0))) (omega (arith, pow-pos (place (l .rest) t (l .inv .0)), t))
 
 loop-again : tie.Need-loop-again Inv-loop μ-loop
 loop-again c =
-    let l = c .before .before .before .loop in
-    let t = c .before .before .loop-test .taken in
+    let l = c .before .before .loop in
+    let t = c .before .loop-test .taken in
     let (few, some, bound, is) = l .inv in
     let k = place (l .rest) t few in
-    let r : c .mul-shift62 .result ≡ next (l .rest) t few (l .p) bound = c .mul-shift62 .ensures ∙ ap (λ (x : ℕ). l .p * x / 2 ^ 62) (c .before .two-root .ensures) in
+    let r : c .mul-shift62 .result ≡ next (l .rest) t few (l .p) bound = c .mul-shift62 .ensures ∙ ap (λ (x : ℕ). l .p * x / 2 ^ 62) (entry (l .rest) t few _ (c .before .before .before .roots .ensures)) in
     subst (λ (x : ℕ). (l .rest - x < 2 ^ 40) × (2 ^ 62 ≤ c .mul-shift62 .result) × (c .mul-shift62 .result * twoRoot (40 - size (l .rest - x)) ≤ 2 ^ 125) × (twoBits 40 (l .rest - x) (c .mul-shift62 .result) ≡ twoBits 40 (c .before .before .before .before .args .f) (2 ^ 62)))
     (sym (bit (l .rest) t few))
     (subst (λ (p : ℕ). (l .rest - 2 ^ k < 2 ^ 40) × (2 ^ 62 ≤ p) × (p * twoRoot (40 - size (l .rest - 2 ^ k)) ≤ 2 ^ 125) × (twoBits 40 (l .rest - 2 ^ k) p ≡ twoBits 40 (c .before .before .before .before .args .f) (2 ^ 62)))
@@ -151,11 +166,13 @@ two-bits-spec =
     (tie.spec
     Inv-loop
     μ-loop
+    roots-requires
     loop-holds
     sub-k
     cast-k
-    sub-two-root
-    two-root-requires
+    sub-mul-shift62
+    mul-mul-shift62
+    array-read-mul-shift62
     mul-shift62-requires
     shl-rest
     sub-rest
