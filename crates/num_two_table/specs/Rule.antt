@@ -56,9 +56,9 @@ unfolding lastOf
 last-is t u [] = refl
 last-is t u (v ∷ us) = last-is v u us
 
-follows-more : (t u : ℕ) (us : List ℕ) → Follows t us → Largest (lastOf t us * 2 ^ 62) u → Follows t (us ++ (u ∷ []))
+follows-more : (t u : ℕ) (us : List ℕ) → Follows t us → Follows (lastOf t us) (u ∷ []) → Follows t (us ++ (u ∷ []))
 unfolding lastOf
-follows-more t u [] a l = (l, tt)
+follows-more t u [] a l = l
 follows-more t u (v ∷ us) a l = (a .0, follows-more v u us (a .1) l)
 
 roots-last : (n : ℕ) → lastOf (2 ^ 63) (twoRoots n) ≡ twoRoot n
@@ -71,7 +71,7 @@ unfolding twoRoots
 roots-follow zero = tt
 roots-follow (suc n) =
     follows-more (2 ^ 63) (twoRoot (suc n)) (twoRoots n) (roots-follow n)
-    (subst (λ (t : ℕ). Largest (t * 2 ^ 62) (twoRoot (suc n))) (sym (roots-last n)) (largest (root-rule n)))
+    (subst (λ (t : ℕ). Follows t (twoRoot (suc n) ∷ [])) (sym (roots-last n)) (largest (root-rule n), tt))
 
 -- T(1) to T(n) obey it, and are the only list that does
 pub roots-table : (n : ℕ) → Table n (twoRoots n)

@@ -1,19 +1,16 @@
 -- `num_two_table::next_root` meets its contract: with so many bits left, the root lies from r to below r + 2 ^ left. Assumes nothing.
 use Prim.Native.Nat.{ℕ, suc, _+_, _-_, _*_, _/_, _%_, _^_, _≤_, _<_}
 use native.Mathlib.Omega.{arith}
-use native.Mathlib.Nat.{le-trans, lt-of-le-of-lt, lt-trans, mul-add, one-mul, mod-eq-of-lt, mul-le-mul-right, pow-succ', div-lt-iff-lt-mul, le-div-iff-mul-le}
+use native.Mathlib.Nat.{le-trans, lt-of-le-of-lt, mul-add, one-mul, mod-eq-of-lt, mul-le-mul-right, pow-succ', div-lt-iff-lt-mul, le-div-iff-mul-le}
 use mathlib.Core.Path.{_≡_, sym, ap, _∙_, subst}
 use borrow.Author.Needs.{needs}
-use lib.Dec.{lit<, lit≤}
+use lib.Dec.{lit<}
 use lib.Pow.{pow-pos, pow-lt}
 use Rattle.num_roots.specs.Root.{square}
 use Rattle.num_roots.specs.Isqrt.{square-suc, lt-of-square}
 use Rattle.num_two_table.specs.Rule.{largest}
 use Rattle.num_two_table.proofs.next_root.Statement.{statement}
 use Rattle.num_two_table.proofs.next_root.Tie as tie
-use Rattle.num_two_table.proofs.next_root.Reads as reads
-use Rattle.num_two_table.proofs.next_root.Lts as lts
-use Rattle.num_elementary.proofs.mul_shift62.Reads as mul-shift62-reads
 
 abbrev Inv-loop : tie.InvT-loop
 Inv-loop t r₀ left₀ r left = (left ≤ 63) × (r + 2 ^ left ≤ 2 ^ 63) × (square r ≤ t * 2 ^ 62) × (t * 2 ^ 62 < square (r + 2 ^ left))
@@ -53,46 +50,36 @@ module _ (t r l : ℕ) (some : 0 < l) (most : t ≤ 2 ^ 63) (inv : (l ≤ 63) ×
   fits : (1 ≤ r + 1 * 2 ^ (l - 1) % 2 ^ 64) × (r + 1 * 2 ^ (l - 1) % 2 ^ 64 + 1 < 2 ^ 63)
   fits = (omega (arith, bit, pow-pos (l - 1)), omega (arith, bit, pow-pos (l - 1), double, small, inv .1))
 
--- src/lib.rt:18:5
 loop-holds : tie.Need-loop-holds Inv-loop μ-loop
 loop-holds c = (omega arith, omega arith, omega arith, lt-of-le-of-lt (mul-le-mul-right (2 ^ 62) (c .pre)) (lit< tt))
 
--- src/lib.rt:19:9
 sub-left : tie.Need-sub-left Inv-loop μ-loop
 sub-left c = search needs
 
--- src/lib.rt:20:27
 cast-c : tie.Need-cast-c Inv-loop μ-loop
 cast-c c = search needs
 
--- src/lib.rt:20:22
 shl-c : tie.Need-shl-c Inv-loop μ-loop
 shl-c c = search needs
 
 turn : (c : tie.In-loop Inv-loop μ-loop) → (1 ≤ c .before .loop .r + 1 * 2 ^ (c .before .loop .left - 1) % 2 ^ 64) × (c .before .loop .r + 1 * 2 ^ (c .before .loop .left - 1) % 2 ^ 64 + 1 < 2 ^ 63)
 turn c = fits (c .before .before .args .t) (c .before .loop .r) (c .before .loop .left) (c .loop-test .taken) (c .before .before .pre) (c .before .loop .inv)
 
--- src/lib.rt:20:17
 add-c : tie.Need-add-c Inv-loop μ-loop
 add-c c = omega (arith, turn c)
 
--- src/lib.rt:21:40
 sub-mul-shift62 : tie.Need-sub-mul-shift62 Inv-loop μ-loop
 sub-mul-shift62 c = omega (arith, turn c)
 
--- src/lib.rt:21:47
 add-mul-shift62 : tie.Need-add-mul-shift62 Inv-loop μ-loop
 add-mul-shift62 c = omega (arith, turn c)
 
--- src/lib.rt:21:12
 mul-shift62-requires : tie.Need-mul-shift62-requires Inv-loop μ-loop
 mul-shift62-requires c κs = (omega (arith, turn c), turn c .1)
 
--- src/lib.rt:18:5
 loop-less : tie.Need-loop-less Inv-loop μ-loop
 loop-less c = search needs
 
--- src/lib.rt:18:5
 loop-again : tie.Need-loop-again Inv-loop μ-loop
 loop-again c =
     let l = c .before .before .before .loop in
@@ -108,11 +95,9 @@ loop-again c =
       subst (λ (x : ℕ). t * 2 ^ 62 < square x) (sym same) (l .inv .3),
     )
 
--- src/lib.rt:18:5
 loop-less-2 : tie.Need-loop-less-2 Inv-loop μ-loop
 loop-less-2 c = search needs
 
--- src/lib.rt:18:5
 loop-again-2 : tie.Need-loop-again-2 Inv-loop μ-loop
 loop-again-2 c =
     let l = c .before .before .before .loop in
@@ -127,7 +112,6 @@ loop-again-2 c =
       subst (λ (x : ℕ). t * 2 ^ 62 < square (l .r + x)) b (beyond t _ _ (turn (c .before .before) .0) (c .before .mul-shift62 .ensures) (c .if1 .left)),
     )
 
--- src/lib.rt:12:1
 returns : tie.Need-returns Inv-loop μ-loop
 returns c =
     let l = c .before .loop in

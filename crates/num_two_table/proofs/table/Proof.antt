@@ -1,5 +1,5 @@
 -- `num_two_table::table` meets its contract: before entry i the entries are T(1) to T(i), and t is T(i). Assumes nothing.
-use Prim.Native.Nat.{ℕ, suc, _+_, _-_, _*_, _^_, _≤_, _<_}
+use Prim.Native.Nat.{ℕ, suc, _-_, _*_, _^_, _≤_, _<_}
 use native.Mathlib.Numerals.{add-one}
 use native.Mathlib.Omega.{arith}
 use mathlib.Core.Path.{_≡_, refl, sym, ap, _∙_, subst}
@@ -13,9 +13,6 @@ use Rattle.num_elementary.specs.TwoLaws.{root-entry, root-rule}
 use Rattle.num_two_table.specs.Rule.{Largest, Table, largest, largest-unique, roots-table}
 use Rattle.num_two_table.proofs.table.Statement.{statement}
 use Rattle.num_two_table.proofs.table.Tie as tie
-use Rattle.num_two_table.proofs.table.Reads as reads
-use Rattle.num_two_table.proofs.table.Lts as lts
-use Rattle.num_two_table.proofs.next_root.Reads as next-root-reads
 
 abbrev Inv-loop : tie.InvT-loop
 Inv-loop roots₀ t₀ i₀ roots t i = (i ≤ 40) × (length roots ≡ 40) × (t ≡ twoRoot i) × (take i roots ≡ twoRoots i)
@@ -23,7 +20,6 @@ Inv-loop roots₀ t₀ i₀ roots t i = (i ≤ 40) × (length roots ≡ 40) × (
 abbrev μ-loop : tie.MeasureT-loop
 μ-loop roots₀ t₀ i₀ roots t i = 40 - i
 
--- src/lib.rt:35:5
 -- an entry more
 module _ (roots : List ℕ) (i u : ℕ) (room : i < length roots) (so-far : take i roots ≡ twoRoots i) (h : Largest (twoRoot i * 2 ^ 62) u) where
   is : u ≡ twoRoot (suc i)
@@ -37,27 +33,21 @@ loop-holds : tie.Need-loop-holds Inv-loop μ-loop
 unfolding twoRoot twoRoots
 loop-holds c = (omega arith, refl, refl, refl)
 
--- src/lib.rt:36:9
 next-root-requires : tie.Need-next-root-requires Inv-loop μ-loop
 next-root-requires c κs = let l = c .before .loop in subst (λ (x : ℕ). x ≤ 2 ^ 63) (sym (l .inv .2)) (root-entry (l .i) (omega arith) .most)
 
--- src/lib.rt:37:9
 mul-roots : tie.Need-mul-roots Inv-loop μ-loop
 mul-roots c = search needs
 
--- src/lib.rt:37:9
 array-write-roots : tie.Need-array-write-roots Inv-loop μ-loop
 array-write-roots c = search needs
 
--- src/lib.rt:38:9
 add-i : tie.Need-add-i Inv-loop μ-loop
 add-i c = search needs
 
--- src/lib.rt:35:5
 loop-less : tie.Need-loop-less Inv-loop μ-loop
 loop-less c = search needs
 
--- src/lib.rt:35:5
 loop-again : tie.Need-loop-again Inv-loop μ-loop
 loop-again c =
     let l = c .before .before .loop in
@@ -70,7 +60,6 @@ loop-again c =
       subst (λ (n : ℕ). take n (set (l .roots) (l .i) u) ≡ twoRoots n) (sym (add-one (l .i))) (more (l .roots) (l .i) u room (l .inv .3) h),
     )
 
--- src/lib.rt:29:1
 returns : tie.Need-returns Inv-loop μ-loop
 returns c =
     let l = c .before .loop in
