@@ -1,7 +1,7 @@
 // Log, Two, Power, exp and log10 over whole numbers (document 01, "Positions, paths, numbers").
 ghost use mathlib.Core.Path.{_≡_};
 ghost use mathlib.Core.Bool.{true, false, not};
-ghost use Prim.Native.Nat.{_*_, _/_, _^_, _≤_, _<_};
+ghost use Prim.Native.Nat.{_-_, _*_, _/_, _^_, _≤_, _<_};
 ghost use lib.Dec.{T};
 ghost use lib.IntN.{pos, negsuc};
 ghost use lib.Signed.{ltZ, leZ};
@@ -17,6 +17,11 @@ ghost use Rattle.num_elementary.specs.Power.{powerOfZero, powerOther, po
 const ONE: u64 = 0x4000_0000_0000_0000;
 
 const TWO: u64 = 0x8000_0000_0000_0000;
+
+// Two keeps 53 of the 63 bits of P: the unit in which it counts, and what is below half of it.
+const UNIT: u64 = 1024;
+
+const BELOW_HALF: u64 = 511;
 
 // A digit of 31 bits.
 const DIGIT: u64 = 0x8000_0000;
@@ -159,7 +164,7 @@ pub fn roots() -> [u64; 40]
 // turn: where they stand does not wait for P, and no branch but the last depends on them. A constant array is written to the
 // stack at each use, so it is taken once, before the loop.
 fn two_bits(f: u64) -> u64
-    ensures { λ r. ⌜ (r ≡ twoBits 40 f (2 ^ 62)) × (2 ^ 62 ≤ r) × (r < 2 ^ 63) ⌝ }
+    ensures { λ r. ⌜ (r ≡ twoBits 40 f (2 ^ 62)) × (2 ^ 62 ≤ r) × (r < 2 ^ 63 - 2 ^ 9) ⌝ }
 {
     let table = roots();
     let mut p: u64 = ONE;
@@ -172,11 +177,12 @@ fn two_bits(f: u64) -> u64
     p
 }
 
-// The 53 digits that are kept of P.
+// P rounded to 53 bits, ties to even: less than half a unit is added first, and one more to an odd digit.
 fn two_round(p: u64) -> u64
+    requires { ⌜ p < 2 ^ 63 ⌝ }
     ensures { λ r. ⌜ r ≡ twoRound p ⌝ }
 {
-    p / 1024
+    (p + BELOW_HALF + p / UNIT % 2) / UNIT
 }
 
 // Two at a whole number E from -1022 * 2^40 to below 1024 * 2^40: E = n * 2^40 + f by floor division. The leading

@@ -67,7 +67,7 @@ tracked time = trackingOf (entries time) trackedTo
 pub table : List Example
 table =
     record { number = 1; computed = bits (rootOf binary64 two64); written = pos 0x3FF6A09E667F3BCD }  -- the root of 2
-    ∷ record { number = 2; computed = bits (twoOf two39); written = pos 0x3FF6A09E667F3BCC }  -- Two of 2^39
+    ∷ record { number = 2; computed = bits (twoOf two39); written = pos 0x3FF6A09E667F3BCD }  -- Two of 2^39
     ∷ record { number = 3; computed = logOf eight; written = pos (3 * 2 ^ 40) }  -- L of 8
     ∷ record { number = 4; computed = logOf half64; written = negℤ (pos (2 ^ 40)) }  -- L of 0.5
     ∷ record { number = 5; computed = bits (powerOf zero64 zero64); written = bits one64 }  -- Power(0, 0)
