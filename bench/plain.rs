@@ -53,7 +53,8 @@ impl Table {
                 big = mul62(big, self.0[j]);
             }
         }
-        f64::from_bits((((n + 1023) as u64) << 52) + ((big >> 10) - (1 << 52)))
+        let kept = (big + 511 + (big >> 10 & 1)) >> 10;
+        f64::from_bits((((n + 1023) as u64) << 52) + (kept - (1 << 52)))
     }
 
     pub fn power(&self, b: f64, e: f64) -> f64 {

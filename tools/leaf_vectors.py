@@ -4,7 +4,7 @@
     leaf_vectors.py ORACLE DIR      writes DIR/stdin and DIR/stdout
 
 ORACLE is the comparison program built from the customer's Rust; its `leaf` command answers for the functions that the ranking rules
-bind (two, power, exp, log10, angle, root, root32, max, min, i32, f32). Whole parts, remainders, clamp, abs, radians and the
+bind (two, power, exp, log10, log, angle, root, root32, max, min, i32, f32). Whole parts, remainders, clamp, abs, radians and the
 helpers of util/difficulty.rs are worked out here, in IEEE 754 double arithmetic. The same seed gives the same files.
 """
 import math
@@ -32,6 +32,9 @@ INF, NAN = math.inf, real(0x7FF8000000000000)
 EDGES = [0.0, -0.0, 1.0, -1.0, 0.5, -0.5, 2.0, 3.0, real(1), -real(1), real(0x000FFFFFFFFFFFFF), real(0x0010000000000000),
          real(0x7FEFFFFFFFFFFFFF), -real(0x7FEFFFFFFFFFFFFF), INF, -INF, NAN, 2.0**52, 2.0**52 - 0.5, 2.0**52 + 1, 2.0**53, 2.0**53 + 2,
          -(2.0**52), 1.5, 2.5, -1.5, -2.5, 0.1, 1 / 3, math.pi, 1e300, 1e-300, 4503599627370495.5, 0.49999999999999994]
+
+# whole numbers at which Two's P lies halfway between two floats: the lower one is even, or odd
+TIES = [172, 3290, 4314, 5338, 7982, 10985, 898, 8685, 8876, 10091, 16219, 19489]
 
 
 def near(x):
@@ -103,6 +106,8 @@ def calls(r):
         a, w = r.uniform(-50, 300), r.uniform(1, 200)
         v += [("b", None, (abs(a) + 1,)), ("B", None, (abs(a) + 1,)), ("l", None, (a, 10.0, 10.0 + w)), ("s", None, (a, 10.0, 10.0 + w)),
               ("S", None, (a, 10.0, 10.0 + w)), ("k", None, (a, 100.0, w)), ("L", None, (a / 100, 0.88, 10.0))]
+    v += [("2", "two", (f + n * 2.0**40,)) for f in TIES for n in (0, -3)]
+    v += [("o", "log" if 0 < x < INF else None, (x,)) for x in xs + [abs(x) for x in xs] + [y for k in range(-1074, 1024, 61) for y in near(math.ldexp(1.0, k))]]
     return v + [(f, None, (x,)) for x in bounds() for f in "tfc"]
 
 
@@ -149,7 +154,7 @@ def here(f, a, exp):
     answer = {
         "t": lambda: whole(x, math.trunc), "f": lambda: whole(x, math.floor), "c": lambda: whole(x, math.ceil),
         "1": lambda: NAN if x != x or abs(x) == INF else math.fmod(x, 1.0), "R": lambda: NAN if x != x or abs(x) == INF else math.fmod(x, 2.0),
-        "a": lambda: abs(x), "d": lambda: x * (math.pi / 180.0), "C": lambda: clamp(*a),
+        "o": lambda: NAN, "a": lambda: abs(x), "d": lambda: x * (math.pi / 180.0), "C": lambda: clamp(*a),
         "b": lambda: 60000.0 / 4.0 / x, "B": lambda: 60000.0 / (x * 4.0), "l": lambda: reverse_lerp(*a), "s": lambda: smoothstep(*a),
         "S": lambda: smootherstep(*a), "k": lambda: bell(*a), "L": lambda: 1.0 / (1.0 + exp(a[2] * (a[1] - x))),
     }[f]()
@@ -174,7 +179,7 @@ def main():
         for f, n, a in v:
             i.write(f.encode() + struct.pack("<QQQ", *([word(x) for x in a] + [0, 0])[:3]))
             answer = next(told) if n else here(f, a, lambda x: exps[a])
-            o.write((hex64(float(answer)) if f == "i" else answer) + "\n")
+            o.write((hex64(float(answer)) if n in ("i32", "log") else answer) + "\n")
     print(len(v), "vectors,", len(lines), "of them answered by the oracle")
 
 
