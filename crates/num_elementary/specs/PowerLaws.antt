@@ -7,7 +7,7 @@ use Prim.Native.Nat.{ℕ, zero, suc, _+_, _*_, _^_, _≤_, _<_, zero-le}
 use native.Mathlib.Nat.{le-trans, le-of-eq, le-of-lt, lt-irrefl, mul-one, one-mul, mul-zero, zero-mul, mul-pos, mul-le-mul, zero-lt-suc, eq-zero-or-pos}
 use native.Mathlib.Omega.{arith}
 use borrow.Author.Tests.{lt-ltb, le-ltb, eq-eqb, ne-eqb, eqb-false, ltb-true}
-use lib.Dec.{T, ltb, eqb, eqb→eq, lt→ltb, lit<}
+use lib.Dec.{T, ltb, eqb, eqb→eq, lt→ltb, ltb→lt, lit<}
 use lib.IntN.{ℤ, pos, negsuc, negℤ}
 use lib.Signed.{mag}
 use lib.Pow.{pow-pos}
@@ -27,7 +27,7 @@ use Rattle.num_roots.specs.RootRange.{root-le-one}
 use Rattle.num_whole.specs.WholeLaws.{neg-round}
 use Rattle.num_elementary.specs.Log.{logOf}
 use Rattle.num_elementary.specs.Two.{twoOf}
-use Rattle.num_elementary.specs.Power.{log64, powerOfZero, powerOther, powerOf}
+use Rattle.num_elementary.specs.Power.{log64, logTotal, powerOfZero, powerOther, powerOf}
 use Rattle.num_elementary.specs.LogLaws.{Minus, log-bound, log-not-above}
 use Rattle.num_elementary.specs.TwoLaws.{NotAbove, NonNeg, units-nonneg, two-le-one, two-nonneg}
 
@@ -332,6 +332,21 @@ above-at (fin false m e) f t = lt→ltb 0 m (first-pos m (up e) (omega (arith, l
 
 pub positive-above : (b : Float) → finite b ≡ true → lt zero64 b ≡ true → T (positive b)
 positive-above b f t = above-at b f (ap (λ (x : Float). lt x b) (sym zero-is) ∙ t)
+
+-- and back: what is finite and above zero passes both tests
+at-above : (b : Float) → T (positive b) → (finite b ≡ true) × (lt nought b ≡ true)
+unfolding lt
+at-above nan p = absurd p
+at-above (inf s) p = absurd p
+at-above (fin true m e) p = absurd p
+at-above (fin false m e) p = (refl, lt-ltb (0 * down e) (m * up e * 1) (omega (arith, zero-mul (down e), mul-one (m * up e), mul-pos (ltb→lt 0 m p) (up-pos e))))
+
+pub log-above : (b : Float) → T (positive b) → logTotal b ≡ log64 b
+unfolding logTotal
+log-above b p =
+    let t = at-above b p in
+    let z = ap (λ (x : Float). lt x b) zero-is ∙ t .1 in
+    simp (t .0, z) refl
 
 and-true : (b : Bool) → b && true ≡ b
 and-true true = refl

@@ -11,7 +11,7 @@ ghost use lib.Ieee.Positive.{positive};
 ghost use Rattle.num_elementary.specs.Log.{logBits, logOf};
 ghost use Rattle.num_elementary.specs.Two.{twoBits, twoRound, twoAt, floorZ, twoOf};
 ghost use Rattle.num_elementary.specs.Roots.{twoRoots};
-ghost use Rattle.num_elementary.specs.Power.{powerOfZero, powerOther, powerOf, expOf, log10Of};
+ghost use Rattle.num_elementary.specs.Power.{logTotal, powerOfZero, powerOther, powerOf, expOf, log10Of};
 
 // 1 and 2 as M and P of Log and Two have them, in units of 2^-62.
 const ONE: u64 = 0x4000_0000_0000_0000;
@@ -101,12 +101,25 @@ fn log_scaled(m: u64, k: u64) -> i64
 }
 
 // L of a finite b above zero; it is below zero for b under 1.
-fn log(b: f64) -> i64
+fn log_whole(b: f64) -> i64
     requires { ⌜ T (positive b) ⌝ }
     ensures { λ r. ⌜ r ≡ logOf b ⌝ }
 {
     let p = num_floats::parts(num_floats::bits_of_f64(b), num_floats::FIELD);
     log_scaled(p.digits, p.exponent)
+}
+
+// Log(b): L, which is whole and exact as an f64, so that L / 2^40 is the binary logarithm; NaN where b is not finite or not above zero.
+pub fn log(b: f64) -> f64
+    ensures { λ r. ⌜ r ≡ logTotal b ⌝ }
+{
+    if !num_floats::is_finite(b) {
+        return num_floats::nan();
+    }
+    if 0.0 < b {
+        return log_whole(b) as f64;
+    }
+    num_floats::nan()
 }
 
 // T(1) to T(40): T(0) is 2^63, and T(j+1) the largest t with t * t <= T(j) * 2^62. Crate `num_two_table` works them out.
@@ -248,7 +261,7 @@ fn power_other(b: f64, e: f64) -> f64
         return num_floats::nan();
     }
     if 0.0 < b {
-        return two(e * (log(b) as f64));
+        return two(e * (log_whole(b) as f64));
     }
     power_of_zero(e)
 }
@@ -283,11 +296,5 @@ pub fn exp(x: f64) -> f64
 pub fn log10(b: f64) -> f64
     ensures { λ r. ⌜ r ≡ log10Of b ⌝ }
 {
-    if !num_floats::is_finite(b) {
-        return num_floats::nan();
-    }
-    if 0.0 < b {
-        return log(b) as f64 / SCALE_64 * LOG10_2;
-    }
-    num_floats::nan()
+    log(b) / SCALE_64 * LOG10_2
 }

@@ -54,13 +54,13 @@ returns-3 c =
     let z = sym (t .before .is-finite2 .ensures) ∙ not-false _ (t .if2 .left) in
     c .nan3 .ensures ∙ simp (y, z, c .before .if3 .taken)
 
-log-requires : tie.Need-log-requires
-log-requires c κs =
+log-whole-requires : tie.Need-log-whole-requires
+log-whole-requires c κs =
     let i = c .before .before .before .before in
     positive-above (i .before .before .args .b) (sym (i .before .is-finite .ensures) ∙ not-false _ (i .if1 .left)) (c .if4 .taken)
 
-logged : (c : tie.After-log) → toZ w64 (ofZ w64 (c .log .result)) ≡ logOf (c .before .before .before .before .before .before .before .args .b)
-logged c = let back : toZ w64 (ofZ w64 (c .log .result)) ≡ c .log .result = search needs in back ∙ c .log .ensures
+logged : (c : tie.After-log-whole) → toZ w64 (ofZ w64 (c .log-whole .result)) ≡ logOf (c .before .before .before .before .before .before .before .args .b)
+logged c = let back : toZ w64 (ofZ w64 (c .log-whole .result)) ≡ c .log-whole .result = search needs in back ∙ c .log-whole .ensures
 
 int-to-float-two : tie.Need-int-to-float-two
 int-to-float-two c =
@@ -102,4 +102,4 @@ returns-5 c =
 pub power-other-spec : {M : Type 1} → statement M
 power-other-spec =
     tie.close
-    (tie.spec is-finite-requires nan-requires returns is-finite-requires-2 nan-requires-2 returns-2 nan-requires-3 returns-3 log-requires int-to-float-two two-requires returns-4 power-of-zero-requires returns-5)
+    (tie.spec is-finite-requires nan-requires returns is-finite-requires-2 nan-requires-2 returns-2 nan-requires-3 returns-3 log-whole-requires int-to-float-two two-requires returns-4 power-of-zero-requires returns-5)
