@@ -13,6 +13,7 @@ fn of_one(f: u8, x: f64) -> f64 {
         b'2' => num_elementary::two(x),
         b'e' => num_elementary::exp(x),
         b'g' => num_elementary::log10(x),
+        b'o' => num_elementary::log(x),
         b'r' => num_roots::root64(x),
         b't' => num_whole::trunc(x),
         b'f' => num_whole::floor(x),
