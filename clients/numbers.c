@@ -19,12 +19,12 @@ static uint64_t bits(double x) {
     return x == x ? b : UINT64_C(0x7FF8000000000000);
 }
 
-static uint32_t root32(uint32_t bits) {
+static uint32_t root32(uint32_t b) {
     float x;
-    memcpy(&x, &bits, sizeof x);
+    memcpy(&x, &b, sizeof x);
     x = numbers_root32(x);
-    memcpy(&bits, &x, sizeof bits);
-    return x == x ? bits : UINT32_C(0x7FC00000);
+    memcpy(&b, &x, sizeof b);
+    return x == x ? b : UINT32_C(0x7FC00000);
 }
 
 static const struct { const char *name; double (*of)(double); } of_one[] = {

@@ -104,7 +104,7 @@ def log10(client, r, count):
 
 
 def power(client, r, count):
-    """t of b^e = answer * 2^(t / 2^40), from -1/16 to 2e + 1.07, or from 2e - 1/16 to 1.07 for e below zero."""
+    """t of b^e = answer * 2^(t / 2^40), above -0.063 and below 2e + 1.07, or above 2e - 0.063 and below 1.07 for e below zero."""
     bases = [lambda: r.random(), lambda: r.uniform(0, 50), lambda: real(r.randrange(1, INFINITY)), lambda: math.ldexp(1.0, r.randint(-9, 9)) * (1 + r.random() * 2.0**-20)]
     rows = [(r.choice(bases)(), r.choice((r.uniform(-4, 8), r.uniform(-100, 100), float(r.randint(4, 9))))) for _ in range(5 * count)]
     tried = outside = 0
@@ -114,7 +114,7 @@ def power(client, r, count):
             continue
         tried += 1
         t = (Decimal(e) * Decimal(b).ln() - Decimal(a).ln()) / LN_2 * 2**40
-        outside += not min(0, 2 * Decimal(e)) - Decimal("0.0625") <= t < max(0, 2 * Decimal(e)) + Decimal("1.07")
+        outside += not min(0, 2 * Decimal(e)) - Decimal("0.063") < t < max(0, 2 * Decimal(e)) + Decimal("1.07")
         worst = max(worst, abs(t) / (2 * abs(Decimal(e)) + Decimal("1.07")))
     print(f"power: {tried} powers, {outside} outside; the largest error is {float(worst):.3f} of the bound")
     return outside
