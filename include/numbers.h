@@ -18,7 +18,7 @@
 extern "C" {
 #endif
 
-/* Log: L, a whole number of a size below 2^53, with L / 2^40 <= log2(b) < (L + 2) / 2^40. Exactly 2^40 times the exponent for a power of two.
+/* Log: L, a whole number of a size below 2^53, with L / 2^40 <= log2(b) < (L + 2) / 2^40. For b = 2^k it is k * 2^40.
  * NaN where b is not finite or not above zero. Subnormal numbers are answered like others. */
 double numbers_log(double b);
 
