@@ -43,9 +43,17 @@ unfoldable pub nestedOk : Nested → Bool → Bool
 nestedOk e last =
     timeOk (e .start) && coordinateOk (e .x) && coordinateOk (e .y) && (last && eqb (e .kind) tail || not last && ltb (e .kind) tail) && eqb (e .zero) 0
 
+-- order 6: "by start time, never falling; at equal times a tick comes before a repeat": entry b may follow a, neither of them the tail
+unfoldable pub inOrder : Nested → Nested → Bool
+inOrder a b = Ieee.lt (a .start) (b .start) || Ieee.eq (a .start) (b .start) && leb (a .kind) (b .kind)
+
+-- order 6, "those before the tail": entry k of a slider's count nested entries, which begin at first, is the first, the tail, or may follow the one before
+unfoldable pub inTime : List ℕ → Layout → ℕ → ℕ → ℕ → Bool
+inTime s lay first count k = eqb k 0 || eqb (k + 1) count || inOrder (nestedOf s lay (first + (k - 1))) (nestedOf s lay (first + k))
+
 -- entry k of a slider's count nested entries, which begin at first, is wrong
 unfoldable pub nestedBad : List ℕ → Layout → ℕ → ℕ → ℕ → Bool
-nestedBad s lay first count k = not (nestedOk (nestedOf s lay (first + k)) (eqb (k + 1) count))
+nestedBad s lay first count k = not (nestedOk (nestedOf s lay (first + k)) (eqb (k + 1) count) && inTime s lay first count k)
 
 -- "the first length is 0, lengths never fall": at point k of a slider's points, which begin at first
 unfoldable pub lengthOk : List ℕ → Layout → ℕ → ℕ → Bool

@@ -7,7 +7,7 @@ use Rattle.num_floats.specs.Same.{Same, shift, u32-same, f64-same, f32-same}
 use Rattle.chart_fields.specs.Limits.{nestedSize, pointSize}
 use Rattle.chart_fields.specs.declared.Fields.{Fields}
 use Rattle.chart_fields.specs.declared.Layout.{Layout}
-use Rattle.chart_entries.specs.Entries.{nestedAt, nestedOf, pointAt, pointOf, nestedBad, lengthOk, pointBad, runsOk, wrongEntries}
+use Rattle.chart_entries.specs.Entries.{nestedAt, nestedOf, pointAt, pointOf, inTime, nestedBad, lengthOk, pointBad, runsOk, wrongEntries}
 
 pub nested-same : {a b : List ℕ} {p q n : ℕ} → Same a p b q n → nestedSize ≤ n → nestedAt a p ≡ nestedAt b q
 unfolding nestedAt
@@ -35,8 +35,8 @@ pub record SameEntries (a b : List ℕ) (lay : Layout) : Type 0 where
   pub points : (e : ℕ) → pointOf a lay e ≡ pointOf b lay e
 
 nested-bad-same : {a b : List ℕ} {lay : Layout} → SameEntries a b lay → (first count k : ℕ) → nestedBad a lay first count k ≡ nestedBad b lay first count k
-unfolding nestedBad
-nested-bad-same h first count k = cc (h .nested (first + k))
+unfolding nestedBad inTime
+nested-bad-same h first count k = cc (h .nested (first + k), h .nested (first + (k - 1)))
 
 point-bad-same : {a b : List ℕ} {lay : Layout} → SameEntries a b lay → (first k : ℕ) → pointBad a lay first k ≡ pointBad b lay first k
 unfolding pointBad lengthOk

@@ -7,7 +7,7 @@ ghost use lib.ListN.{length};
 ghost use Rattle.chart_fields.specs.Limits.{nestedSize, pointSize};
 ghost use Rattle.chart_fields.specs.Objects.{Holds};
 ghost use Rattle.chart_fields.specs.Search.{firstBelow};
-ghost use Rattle.chart_entries.specs.Entries.{nestedAt, nestedOf, pointAt, pointOf, nestedOk, nestedBad};
+ghost use Rattle.chart_entries.specs.Entries.{nestedAt, nestedOf, pointAt, pointOf, nestedOk, inOrder, inTime, nestedBad};
 ghost use Rattle.chart_entries.specs.Entries.{lengthOk, pointOk, pointBad, runsOk, wrongEntries, badEntries};
 use chart_fields::Fields;
 use chart_fields::Layout;
@@ -96,12 +96,37 @@ fn nested_ok(e: Nested, last: bool) -> bool
         & (e.zero == 0)
 }
 
+// Whether entry b may follow a, neither of them the tail: starts never fall, and of equal ones a tick comes before a repeat.
+fn in_order(a: Nested, b: Nested) -> bool
+    ensures { λ r. ⌜ r ≡ inOrder a b ⌝ }
+{
+    (a.start < b.start) | (a.start == b.start) & (a.kind <= b.kind)
+}
+
+// Whether entry k of count nested entries from first on is the first, the tail, or may follow the one before.
+fn in_time(chart: &[u8], lay: Layout, first: usize, count: usize, k: usize) -> bool
+    requires { ⌜ Holds (now chart) lay × (first + count ≤ lay .nested) × (k < count) ⌝ }
+    ensures { λ r. ⌜ r ≡ inTime (now (chart .entry)) lay first count k ⌝ }
+{
+    if k == 0 {
+        return true;
+    }
+    if k + 1 == count {
+        return true;
+    }
+    in_order(
+        nested_of(chart, lay, first + (k - 1)),
+        nested_of(chart, lay, first + k),
+    )
+}
+
 // Whether entry k of count nested entries from first on is wrong.
 fn nested_bad(chart: &[u8], lay: Layout, first: usize, count: usize, k: usize) -> bool
     requires { ⌜ Holds (now chart) lay × (first + count ≤ lay .nested) × (k < count) ⌝ }
     ensures { λ r. ⌜ r ≡ nestedBad (now (chart .entry)) lay first count k ⌝ }
 {
-    !nested_ok(nested_of(chart, lay, first + k), k + 1 == count)
+    !(nested_ok(nested_of(chart, lay, first + k), k + 1 == count)
+        & in_time(chart, lay, first, count, k))
 }
 
 // The lowest wrong one of count nested entries from first on, or count.

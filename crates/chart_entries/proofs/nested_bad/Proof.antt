@@ -16,10 +16,14 @@ add-nested-ok c = search needs
 nested-ok-requires : tie.Need-nested-ok-requires
 nested-ok-requires c κs = search needs
 
+in-time-requires : tie.Need-in-time-requires
+in-time-requires c κs = search needs
+
 returns : tie.Need-returns
 unfolding nestedBad
 returns c = cc
 
 pub nested-bad-spec : {M : Type 1} → statement M
 nested-bad-spec =
-    tie.close (tie.spec add-nested-of nested-of-requires add-nested-ok nested-ok-requires returns)
+    tie.close
+    (tie.spec add-nested-of nested-of-requires add-nested-ok nested-ok-requires in-time-requires returns)
