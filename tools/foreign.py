@@ -4,8 +4,8 @@
     foreign.py SECOND DIR CHARTS..     writes DIR/stdin and DIR/stdout
 
 SECOND is the folder of the comparison program's second calculator (second.py, refnum.py); its evaluators take records of any numbers when
-these are of the class Real below, which adds what IEEE 754 says of division by zero and the rules say of conversion to i32. The charts are
-those that open, of at most 512 objects. Each gets one table of every pattern; the same charts give the same files.
+these are of the class Real below, which adds what IEEE 754 says of division by zero and the rules say of conversion to i32. The charts have
+at most 512 objects. Each that opens gets one table of every pattern, one that is refused stands alone; the same charts give the same files.
 """
 import math
 import random
@@ -137,9 +137,10 @@ def values(second, s, recs, j):
 
 
 def tables(second, chart):
-    """Each pattern's table, with the lines that it must give."""
+    """Each pattern's table; none for a chart that is refused."""
     if second.conditions(chart) is not None:
-        sys.exit("a chart that is not opened")
+        yield []
+        return
     s, objs = second.read(chart)
     n, true = len(objs), [None]
     if n > 512:
@@ -149,10 +150,28 @@ def tables(second, chart):
     rows = [[NAN] * 16] + [row_of(r) for r in true[1:]]
     r = random.Random(zlib.adler32(chart))
     for pattern in PATTERNS:
-        table = pattern(r, rows)
-        recs = [record_of(j, o, row) for j, (o, row) in enumerate(zip(objs, table))]
-        lines = [f"objects {n}"] + [" ".join([str(j), *map(second.hx, values(second, s, recs, j))]) for j in range(1, n)]
-        yield table, lines
+        yield pattern(r, rows)
+
+
+def answer(second, chart, table):
+    """The lines that a chart and a table must give."""
+    refusal = second.conditions(chart)
+    if refusal is not None:
+        return ["refused {} {}".format(*refusal)]
+    s, objs = second.read(chart)
+    recs = [record_of(j, o, row) for j, (o, row) in enumerate(zip(objs, table))]
+    return [f"objects {len(objs)}"] + [" ".join([str(j), *map(second.hx, values(second, s, recs, j))]) for j in range(1, len(objs))]
+
+
+def unpacked(second, data):
+    """The charts of an input, each with its table; one that is refused has none."""
+    at = 0
+    while at < len(data):
+        size, = struct.unpack_from("<I", data, at)
+        chart, at = data[at + 4:at + 4 + size], at + 4 + size
+        n = 0 if second.conditions(chart) is not None else struct.unpack_from("<I", chart)[0]
+        yield chart, [list(struct.unpack_from("<16d", data, at + 128 * j)) for j in range(n)]
+        at += 128 * n
 
 
 def main():
@@ -163,8 +182,10 @@ def main():
     places = 0
     with open(f"{sys.argv[2]}/stdin", "wb") as given, open(f"{sys.argv[2]}/stdout", "w") as wanted:
         for name in sys.argv[3:]:
-            chart = open(name, "rb").read()
-            for table, lines in tables(second, chart):
+            with open(name, "rb") as file:
+                chart = file.read()
+            for table in tables(second, chart):
+                lines = answer(second, chart, table)
                 given.write(struct.pack("<I", len(chart)) + chart + b"".join(struct.pack("<16d", *row) for row in table))
                 wanted.write("\n".join(lines) + "\n")
                 places += len(lines) - 1

@@ -75,19 +75,47 @@ def stored(name):
     return [(int(place), int(entries), bytes.fromhex(o.removeprefix("-")))]
 
 
+def answers(oracle, chart, asked):
+    """The oracle's answers to calls on a chart, and the checksum of the chart as they leave it."""
+    lines = ["replace %d %s %d %d" % (k, o.hex() or "-", e, e) for k, e, o in asked] + ["chart"]
+    with tempfile.NamedTemporaryFile() as lent, tempfile.NamedTemporaryFile() as saved:
+        lent.write(chart)
+        lent.flush()
+        told = subprocess.run([oracle, "script", lent.name, saved.name, "--unopened"], input="".join(l + "\n" for l in lines), capture_output=True, text=True, check=True).stdout.split("\n")
+        left = zlib.adler32(saved.read())
+    return ["accepted" if answer == "carried-out" else answer for answer in told[:len(asked)]] + ["chart %08X" % left]
+
+
+def packed(chart, asked):
+    """A chart and its calls as the program reads them."""
+    return struct.pack("<I", len(chart)) + chart + struct.pack("<I", len(asked)) + b"".join(struct.pack("<QII", k, e, len(o)) + o for k, e, o in asked)
+
+
+def unpacked(data):
+    """The charts of an input, each with its calls."""
+    at = 0
+    while at < len(data):
+        size, = struct.unpack_from("<I", data, at)
+        chart, at = data[at + 4:at + 4 + size], at + 4 + size
+        count, = struct.unpack_from("<I", data, at)
+        asked, at = [], at + 4
+        for _ in range(count):
+            k, e, length = struct.unpack_from("<QII", data, at)
+            asked.append((k, e, data[at + 16:at + 16 + length]))
+            at += 16 + length
+        yield chart, asked
+
+
 def main():
     oracle, scripts, names = sys.argv[1], sys.argv[2], sys.argv[3:]
-    with open(scripts, "wb") as out, tempfile.NamedTemporaryFile() as saved:
+    with open(scripts, "wb") as out:
         for name in names:
-            chart = open(name, "rb").read()
+            with open(name, "rb") as file:
+                chart = file.read()
             asked = stored(name) or list(calls(chart))
-            lines = ["replace %d %s %d %d" % (k, o.hex() or "-", e, e) for k, e, o in asked] + ["chart"]
-            told = subprocess.run([oracle, "script", name, saved.name, "--unopened"], input="".join(l + "\n" for l in lines), capture_output=True, text=True, check=True).stdout.split("\n")
-            out.write(struct.pack("<I", len(chart)) + chart + struct.pack("<I", len(asked)))
-            for (k, e, o), answer in zip(asked, told):
-                out.write(struct.pack("<QII", k, e, len(o)) + o)
-                print("accepted" if answer == "carried-out" else answer)
-            print("chart %08X" % zlib.adler32(open(saved.name, "rb").read()))
+            out.write(packed(chart, asked))
+            print("\n".join(answers(oracle, chart, asked)))
 
 
-main()
+if __name__ == "__main__":
+    main()

@@ -17,6 +17,7 @@ import random
 import struct
 import subprocess
 import sys
+import tempfile
 from types import SimpleNamespace
 
 sys.dont_write_bytecode = True
@@ -26,7 +27,8 @@ from foreign import Real
 
 ENTRIES = 1024
 KEPT = "entries kept"  # the last line of every script
-KINDS = {"open": 0, "replace": 1, "record": 2, "value": 3, "totals": 4, "poke": 5, "chart": 6}
+NAMES = ("open", "replace", "record", "value", "totals", "poke", "chart")
+KINDS = {name: kind for kind, name in enumerate(NAMES)}
 
 
 class Model:
@@ -140,6 +142,39 @@ def packed_script(r, chart, pattern, lines):
     return struct.pack(f"<I{len(chart)}s80dI", len(chart), chart, *pattern, len(lines)) + b"".join(packed(r, line) for line in lines)
 
 
+def unpacked(data):
+    """The scripts of an input: chart, pattern and lines; a table has as many entries as it has whole ones."""
+    at = 0
+
+    def take(form):
+        nonlocal at
+        at += struct.calcsize(form)
+        return struct.unpack_from(form, data, at - struct.calcsize(form))
+
+    def chunk():
+        return take(f"{take('<I')[0]}s")[0]
+
+    def call():
+        name = NAMES[take("<I")[0]]
+        if name == "open":
+            w = [n // size for n, size in zip(take("<2I"), (16, 5))]
+        elif name == "replace":
+            w = [*take("<Q"), chunk().hex() or "-", *(n // size for n, size in zip(take("<2I"), (16, 5)))]
+        elif name in ("record", "value"):
+            w = [*take("<Q"), take("<I")[0] // (16 if name == "record" else 5)]
+        elif name == "totals":
+            w = [take("<I")[0] // 5, "/", *take("<4I")]
+        elif name == "poke":
+            w = [*take("<I"), chunk().hex() or "-"]
+        else:
+            w = []
+        return " ".join(map(str, [name, *w]))
+
+    while at < len(data):
+        chart, pattern = chunk(), take("<80d")
+        yield chart, list(pattern), [call() for _ in range(take("<I")[0])]
+
+
 def answered(model, line, answer):
     """The answer to a call, worked out anew where the oracle leaves it open."""
     name, *w = line.split()
@@ -158,17 +193,18 @@ def answered(model, line, answer):
     return answer
 
 
-def play(second, oracle, name, lines, unopened, pattern, r):
-    """The script's bytes and the lines that it must give."""
-    chart = open(name, "rb").read()
-    asked = subprocess.run([oracle, "script", name, *["--unopened"] * unopened], input="\n".join(lines).encode(), capture_output=True, check=True)
+def answers(second, oracle, chart, pattern, lines, unopened):
+    """The lines that a script must give, and how many of them are the model's alone."""
+    with tempfile.NamedTemporaryFile() as lent:
+        lent.write(chart)
+        lent.flush()
+        asked = subprocess.run([oracle, "script", lent.name, *["--unopened"] * unopened], input="\n".join(lines).encode(), capture_output=True, check=True)
     told = asked.stdout.decode().splitlines()
     if len(told) != len(lines) + 1:
-        sys.exit(f"{name}: the oracle stopped at {told[-2:]}")
+        sys.exit(f"the oracle stopped at {told[-2:]}")
     model = Model(second, chart, pattern)
-    open_ones = sum(a == "carried-out" for a in told)
     wanted = [answered(model, line, answer) for line, answer in zip(lines, told)]
-    return packed_script(r, chart, pattern, lines), wanted + [told[-1], KEPT], open_ones
+    return wanted + [told[-1], KEPT], sum(a == "carried-out" for a in told)
 
 
 def main():
@@ -183,16 +219,18 @@ def main():
     fillings = list(patterns(r))
     with open(f"{out}/stdin", "wb") as given, open(f"{out}/stdout", "w") as wanted:
         for name in names:
-            chart = open(name, "rb").read()
+            with open(name, "rb") as file:
+                chart = file.read()
             opens = second.conditions(chart) is None
             runs = [(int(calls), False)] * opens + [(int(calls) // 3, True)]
             for count, unopened in runs:
                 lines = mkscripts.script(chart, f"{seed}/{unopened}", count)[0][unopened:]
-                data, answers, left = play(second, oracle, name, lines, unopened, fillings[n_scripts % len(fillings)], r)
-                given.write(data)
-                wanted.write("\n".join(answers) + "\n")
+                pattern = fillings[n_scripts % len(fillings)]
+                told, left = answers(second, oracle, chart, pattern, lines, unopened)
+                given.write(packed_script(r, chart, pattern, lines))
+                wanted.write("\n".join(told) + "\n")
                 n_scripts, n_calls, n_open = n_scripts + 1, n_calls + len(lines), n_open + left
-                for line, answer in zip(lines, answers):
+                for line, answer in zip(lines, told):
                     met[line.split()[0] + " " + (answer[:9] if answer.startswith("refused") else "done")] += 1
     print(n_scripts, "scripts,", n_calls, "calls,", n_open, "answered by the model alone", dict(met), file=sys.stderr)
 
