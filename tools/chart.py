@@ -437,7 +437,8 @@ def entries_fault(c, o):
             return f"the slider's {what} are {count:,} from number {first:,} on, the table has {len(table):,}"
     nested, points = c.nested[o[8]:o[8] + o[9]], c.points[o[10]:o[10] + o[11]]
     for i, e in enumerate(nested):
-        fault = nested_fault(f"the slider's nested entry {i + 1} of {o[9]}", e, i + 1 == len(nested))
+        what, last = f"the slider's nested entry {i + 1} of {o[9]}", i + 1 == len(nested)
+        fault = nested_fault(what, e, last) or (turn_fault(what, e, nested[i - 1]) if 0 < i and not last else None)
         if fault:
             return f"{fault} (number {o[8] + i:,} of the table)"
     for i, p in enumerate(points):
@@ -457,6 +458,15 @@ def nested_fault(what, e, last):
     if not last and e[3] > 1:
         return f"{what} is {name}, all but the last must be tick or repeat"
     return f"{what}: its reserved word is {e[4]:,}, it must be 0" if e[4] else None
+
+
+def turn_fault(what, e, before):
+    """Those before the tail stand by start time, never falling; at equal times a tick comes before a repeat."""
+    start, earlier = value(e[0], 64), value(before[0], 64)
+    if start < earlier:
+        return f"{what} starts at {plain(start)}, the one before it at {plain(earlier)}: before the tail starts never fall"
+    wrong = start == earlier and e[3] < before[3]
+    return f"{what} is a tick at {plain(start)}, where the one before it is a repeat: at equal times a tick comes before a repeat" if wrong else None
 
 
 def point_fault(what, p, before):

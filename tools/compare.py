@@ -33,8 +33,8 @@ BATCH = 500
 
 
 def damage(rng, b):
-    """A chart cut, lengthened, out of order, too long in time, or with some bits flipped."""
-    how, b, n = rng.random(), bytearray(b), struct.unpack_from("<I", b)[0]
+    """A chart cut, lengthened, with objects or nested entries out of order, too long in time, or with some bits flipped."""
+    how, b, (n, nested) = rng.random(), bytearray(b), struct.unpack_from("<2I", b)
     if how < 0.15:
         return bytes(b[:rng.randrange(len(b))])
     if how < 0.25 and len(b) < 32_000:
@@ -44,6 +44,9 @@ def damage(rng, b):
         b[k:k + 112] = b[k + 56:k + 112] + b[k:k + 56]
     elif how < 0.55 and n > 0:
         struct.pack_into("<2d", b, 80 + 56 * (n - 1), 1e7, 1e7)
+    elif how < 0.7 and nested > 1:
+        k = 80 + 56 * n + 24 * rng.randrange(nested - 1)
+        b[k:k + 48] = b[k + 24:k + 48] + b[k:k + 24]
     else:
         for _ in range(rng.choice((1, 1, 1, 2, 4))):
             b[rng.randrange(len(b)) if rng.random() < 0.8 else rng.randrange(80)] ^= 1 << rng.randrange(8)

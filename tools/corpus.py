@@ -4,8 +4,9 @@
     corpus.py TOOLS BUILD DIR     writes DIR/stdin and DIR/stdout, and prints what is in them
 
 TOOLS is the folder of the oracle's scripts (mkcharts.py), BUILD that of its programs (oracle, oracle-cover). stdin has for each chart its length
-(u32, little-endian) and its bytes, first the charts that open, then the damaged ones, then those beyond the lister's 32,768 bytes; stdout has the
-oracle's lines for each but the last, which get 7, in the same order. The same scripts and programs make the same files.
+(u32, little-endian) and its bytes, first the charts that open, then the damaged ones, then those that opened until order 6
+came, then those beyond the lister's 32,768 bytes; stdout has the oracle's lines for each but the last, which get 7, in the same order. The same
+scripts and programs make the same files, with ORDERS=6 in the environment.
 
 The charts that open are: the examples, those of tools/edges (values just beside the bounds of a rule), charts at the ends of the lister's range,
 and of CANDIDATES charts of each style as many as it takes for every branch of the oracle to be met by WANTED charts (or by all that meet it), and
@@ -29,6 +30,10 @@ LIMIT = 32_768
 TOO_LONG = "refused 7 0\n"
 ROOT = os.path.dirname(os.path.dirname(os.path.abspath(__file__)))
 SIZES = (0, 1, 2, 3, 4, 5, 8, 16, 32, 33, 34, 35, 36, 64, 100, 200, 400, 582, 583)
+
+# those of the styles' charts that were stored, and opened, before order 6
+BEFORE = {"sliders": (0, 1, 2, 3, 4, 5, 6), "buzz": (0, 1, 2, 3, 4, 5, 7), "tick_orders": (0, 1, 2, 3, 8, 16, 24), "spinners": (0, 1, 2, 3, 4),
+          "extremes": (0, 4, 22, 33, 35), "shared": (1, 2, 4, 5, 6), "wild": (0, 1, 3, 4)}
 
 
 def texts(folder):
@@ -75,6 +80,12 @@ def ends(mk):
 
 def candidates(mk):
     return {f"{style} {i}": mk.chart_of(style, f"{SEED}.{i}").pack() for style in mk.STYLES for i in range(CANDIDATES)}
+
+
+def unordered():
+    """Charts of BEFORE as they came, with nested entries out of time, which order 6 refuses."""
+    import mkorders
+    return {f"unordered {style} {i}": mkorders.unordered(style, f"{SEED}.{i}").pack() for style, numbers in BEFORE.items() for i in numbers}
 
 
 def damaged(mk):
@@ -170,7 +181,7 @@ def main():
         oracle = Oracle(build, folder)
         first, offered = {**texts("examples"), **texts("tools/edges"), **ends(mk)}, candidates(mk)
         good = {**first, **{name: offered[name] for name in chosen(offered, first, oracle)}}
-        bad = damaged(mk)
+        bad = {**damaged(mk), **unordered()}
         charts = [*good.values(), *bad.values()]
         lines, counters = oracle.listed(charts), oracle.counters(good.values())
     wrong = [name for name, line in zip((*good, *bad), lines) if line.startswith("refused") != (name in bad)]

@@ -50,7 +50,7 @@ class Corpus(unittest.TestCase):
 
     def test_answers(self):
         charts, answers = stored("test_opening"), lines("test_opening")
-        self.assertEqual((len(charts), len(answers)), (3146, 3146))
+        self.assertEqual((len(charts), len(answers)), (3223, 3223))
         for i, (b, answer) in enumerate(zip(charts, answers)):
             found = chart.explain(b)
             self.assertEqual("refused {} {}".format(*found) if found else "opened", answer, f"chart {i}")
@@ -126,6 +126,35 @@ class Text(unittest.TestCase):
         text = SETTINGS + "header objects 2\nheader nested-at 192\nheader points-at 192\nheader length 192\ncircle at 5 x 1 y 2\n"
         b, lines = chart.read_text(text + "bytes " + struct.pack("<2d4f6I", 4, 4, *[0] * 10).hex())
         self.assertEqual(chart.sentence(chart.explain(b), lines), "5 at place 1: it starts at 4, before the object at place 0, which starts at 5")
+
+    def told(self, *entries):
+        """What explain says of a slider with these entries."""
+        b = chart.to_bytes(SETTINGS + "slider at 5 to 90 x 1 y 2\npoint x 0 y 0\n" + "".join(f"{e} x 4 y 6\n" for e in entries))
+        found = chart.explain(b)
+        return found and chart.sentence(found)
+
+    def test_nested_entries_stand_in_time(self):
+        """By start, never falling; at equal starts ticks before repeats; the tail anywhere."""
+        self.assertIsNone(self.told("tick at 7", "tick at 7", "repeat at 7", "repeat at 7", "tick at 8", "tail at 90"))
+        self.assertIsNone(self.told("repeat at 7", "tick at 7.0000000000000009", "tail at 90"))
+        self.assertIsNone(self.told("tick at 0", "repeat at -0", "tail at 90"))
+        self.assertIsNone(self.told("tick at 7", "repeat at 8", "tail at 2"))
+        self.assertIsNone(self.told("repeat at 7", "tail at 7"))
+        fall = "4 at place 0: the slider's nested entry {} of {} starts at {}, the one before it at {}: before the tail starts never fall (number {} of the table)"
+        self.assertEqual(self.told("tick at 7", "tick at 9", "repeat at 8", "tail at 90"), fall.format(3, 4, 8, 9, 2))
+        self.assertEqual(self.told("tick at 9", "repeat at 8", "tick at 7", "tail at 90"), fall.format(2, 4, 8, 9, 1))
+        turned = "4 at place 0: the slider's nested entry 2 of 3 is a tick at {}, where the one before it is a repeat: at equal times a tick comes before a repeat (number 1 of the table)"
+        self.assertEqual(self.told("repeat at 7", "tick at 7", "tail at 90"), turned.format(7))
+        self.assertEqual(self.told("repeat at 0", "tick at -0", "tail at 90"), turned.format("-0"))
+        self.assertEqual(self.told("repeat at -0", "tick at 0", "tail at 90"), turned.format(0))
+
+    def test_entries_by_number_stand_in_time(self):
+        """Sliders that share a run are judged each by its own part."""
+        run = "loose tick at 9 x 0 y 0\nloose tick at 7 x 0 y 0\nloose repeat at 8 x 0 y 0\nloose tail at 4 x 0 y 0\n"
+        slider = "slider at 5 to 90 x 1 y 2 nested {} points 0 1\n"
+        point = "loose point x 0 y 0 length 0\n"
+        self.assertIsNone(chart.explain(chart.to_bytes(SETTINGS + slider.format("1 3") + slider.format("3 1") + run + point)))
+        self.assertEqual(chart.explain(chart.to_bytes(SETTINGS + slider.format("1 3") + slider.format("0 4") + run + point))[:2], (4, 1))
 
     def test_errors_name_the_line(self):
         self.fails(SETTINGS + "circle at 1 x 2", "line 7: y is missing")
