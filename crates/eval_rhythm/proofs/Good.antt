@@ -1,5 +1,5 @@
 -- What holds of the state and the island counts after m turns. Assumes nothing.
-use Prim.Native.Nat.{ℕ, zero, suc, _+_, _≤_}
+use Prim.Native.Nat.{ℕ, zero, suc, _+_, _-_, _≤_}
 use native.Mathlib.Omega.{arith}
 use mathlib.Core.Path.{_≡_, refl, _∙_}
 use mathlib.Core.Bool.{Bool, true, false, cond}
@@ -110,6 +110,7 @@ good-mono m k eps w h g = record {
   island-eps = g .island-eps;
   prev-ok = ok-mono m k (w .state .«prev_island») h (g .prev-ok);
   counts-ok = counts-mono m k (w .counts) h (g .counts-ok);
+  begun = λ on. omega (arith, g .begun on);
   few = omega (arith, g .few);
 }
 
@@ -125,6 +126,7 @@ good-fresh eps = record {
         (record { island-ok = ok-new 0 eps; count-le = omega arith })
         (record { island-ok = record { delta-pos = refl; count-pos = refl; count-le = omega arith }; count-le = omega arith });
   };
+  begun = λ on. no on;
   few = omega arith;
 }
 
@@ -136,6 +138,7 @@ module _ (m : ℕ) (eps : Float) (w : Walk) (g : Good m eps w) where
     island-eps = g .island-eps;
     prev-ok = ok-mono m (suc m) (w .state .«prev_island») (omega arith) (g .prev-ok);
     counts-ok = counts-mono m (suc m) (w .counts) (omega arith) (g .counts-ok);
+    begun = λ on. omega arith;
     few = omega (arith, g .few);
   }
 
@@ -146,16 +149,17 @@ module _ (m : ℕ) (eps : Float) (w : Walk) (g : Good m eps w) where
     island-eps = refl;
     prev-ok = ok-mono m (suc m) (w .state .«prev_island») (omega arith) (g .prev-ok);
     counts-ok = counts-mono m (suc m) (w .counts) (omega arith) (g .counts-ok);
+    begun = λ on. omega arith;
     few = omega (arith, g .few);
   }
 
-  count-few : (b : Bool) → cond b (w .state .n) (w .state .n + 1) ≤ suc m
-  count-few true = omega (arith, g .few)
-  count-few false = omega (arith, g .few)
+  count-few : 1 ≤ m → (b : Bool) → cond b (w .state .n) (w .state .n + 1) ≤ suc m - 1
+  count-few h true = omega (arith, g .few)
+  count-few h false = omega (arith, g .few)
 
-  good-switch : (ratio : Float) (d : Deltas) (curr prev : Cell) (decay window : Float) → Good (suc m) eps (switchStep w ratio d curr prev decay window eps)
+  good-switch : w .state .«first_delta_switch» ≡ true → (ratio : Float) (d : Deltas) (curr prev : Cell) (decay window : Float) → Good (suc m) eps (switchStep w ratio d curr prev decay window eps)
   unfolding switchStep switchedOf newWithDelta
-  good-switch ratio d curr prev decay window =
+  good-switch on ratio d curr prev decay window =
       let at : ℕ = placeOf (w .counts) (w .state .n) (w .state .island) in
       record {
         island-ok = ok-with m (Ieee.toSigned 31 (d .curr)) eps;
@@ -163,12 +167,14 @@ module _ (m : ℕ) (eps : Float) (w : Walk) (g : Good m eps w) where
         prev-ok = ok-mono m (suc m) (w .state .island) (omega arith) (g .island-ok);
         counts-ok = counts-set m (w .counts) at _
             (entry-ok m (w .counts) (w .state .n) at (w .state .island) (w .state .«prev_island») (g .island-ok) (g .counts-ok)) (g .counts-ok);
-        few = count-few (ltb at (w .state .n));
+        begun = λ still. omega arith;
+        few = count-few (g .begun on) (ltb at (w .state .n));
       }
 
-  by : (b d e : Bool) (x y z : Walk) → Good (suc m) eps x → Good (suc m) eps y → Good (suc m) eps z → Good (suc m) eps (cond b (cond d x y) (cond e z w))
+  by : (b d e : Bool) (x y z : Walk) → Good (suc m) eps x → (b ≡ true → Good (suc m) eps y) → Good (suc m) eps z
+      → Good (suc m) eps (cond b (cond d x y) (cond e z w))
   by true true e x y z p q r = p
-  by true false e x y z p q r = q
+  by true false e x y z p q r = q refl
   by false d true x y z p q r = r
   by false d false x y z p q r = good-mono m (suc m) eps w (omega arith) g
 
@@ -177,7 +183,7 @@ module _ (m : ℕ) (eps : Float) (w : Walk) (g : Good m eps w) where
   good-by d curr prev decay window =
       by (w .state .«first_delta_switch») (lt (absOf (d .prev ⊖ d .curr)) eps) (lt (d .curr ⊕ eps) (d .prev)) _ _ _
       (good-progressed (Ieee.toSigned 31 (d .curr)))
-      (good-switch (effectiveOf (d .prev) (d .curr) eps) d curr prev decay window)
+      (λ on. good-switch on (effectiveOf (d .prev) (d .curr) eps) d curr prev decay window)
       (good-began (scaledOf (scaledOf (effectiveOf (d .prev) (d .curr) eps) (curr .slider) sixTenths) (prev .slider) sixTenths) (Ieee.toSigned 31 (d .curr)))
 
   pub good-step : (curr prev last : Cell) (decay window : Float) → Good (suc m) eps (stepOf w curr prev last decay window eps)

@@ -24,6 +24,7 @@ use Rattle.eval_rhythm.specs.Island.{eqI, similarOf}
 use Rattle.eval_rhythm.specs.Counts.{placeOf, entryOf}
 use Rattle.eval_rhythm.specs.Step.{Walk, walkOf, switchRatio, fasterTwice, lastRatio, decayOf, switchedOf, freshState, freshWalk, switchStep, stepOf}
 use Rattle.eval_rhythm.specs.Rhythm.{Cells, runOf, nearOf, startFrom, cellAt, cellsAt}
+use Rattle.eval_rhythm.specs.Comparisons.{comparedIn, turnAt, comparisonsFrom}
 use Rattle.eval_rhythm.proofs.Entries.{entries-fresh}
 
 -- ---- the search for the start, and the run
@@ -52,6 +53,13 @@ unfolding runOf
 run-one v hist window eps zero s h = absurd (omega arith)
 run-one v hist window eps (suc k) s h = let e : suc k - 1 ≡ k = omega arith in rw e
 
+count-one : (v : Cells) (hist : ℕ) (window eps : Float) (k : ℕ) (s : Walk) → 0 < k
+    → comparisonsFrom v hist window eps k s
+    ≡ comparedIn s (v k) (v (k + 1)) (v (k + 2)) eps + comparisonsFrom v hist window eps (k - 1) (turnAt v hist window eps k s)
+unfolding comparisonsFrom
+count-one v hist window eps zero s h = absurd (omega arith)
+count-one v hist window eps (suc k) s h = let e : suc k - 1 ≡ k = omega arith in rw e
+
 -- ---- from what the calls of a turn ensure
 
 pub fresh-walk : (eps : Float) (s : RhythmState) → s ≡ freshState eps
@@ -77,13 +85,19 @@ switch-is w ratio d curr prev decay window eps at e es similar faster r tapped t
     rw (h10, h9, h8, h7, h6, h5, h4, h3, h2, h1)
 
 module _ (v : Cells) (hist : ℕ) where
-  pub run-turn : (window eps : Float) (k : ℕ) (s next : Walk) (here curr prev last : Cell) (d : Float) → 0 < k
+  -- the walk from the next place on; and the comparisons so far, those of the turn and those to come
+  pub run-turn : (window eps : Float) (k : ℕ) (s next : Walk) (here curr prev last : Cell) (d : Float) (so-far more : ℕ) → 0 < k
       → here ≡ v 0 → curr ≡ v k → prev ≡ v (k + 1) → last ≡ v (k + 2)
       → d ≡ decayOf (here .«start_time») (curr .«start_time») hist k
       → next ≡ stepOf s curr prev last d window eps
-      → runOf v hist window eps (k - 1) next ≡ runOf v hist window eps k s
-  run-turn window eps k s next here curr prev last d h hh hc hp hl hd hn =
-      rw (hn, hd, hh, hc, hp, hl) (sym (run-one v hist window eps k s h))
+      → more ≡ comparedIn s curr prev last eps
+      → (runOf v hist window eps (k - 1) next ≡ runOf v hist window eps k s)
+      × (so-far + more + comparisonsFrom v hist window eps (k - 1) next ≡ so-far + comparisonsFrom v hist window eps k s)
+  run-turn window eps k s next here curr prev last d so-far more h hh hc hp hl hd hn hm =
+      let e = count-one v hist window eps k s h in (
+        rw (hn, hd, hh, hc, hp, hl) (sym (run-one v hist window eps k s h)),
+        rw (hm, hn, hd, hh, hc, hp, hl) (omega (arith, e)),
+      )
 
   pub near-is : (r : ℕ) (here prev : Cell) (b : Bool) → r + 2 < hist → here ≡ v 0 → prev ≡ v (r + 1)
       → lt (here .«start_time» ⊖ prev .«start_time») historyTimeMax ≡ b → nearOf v hist r ≡ b
@@ -109,7 +123,17 @@ unfolding runOf
 run-end v hist window eps zero s h = refl
 run-end v hist window eps (suc k) s h = absurd (omega arith)
 
--- without a turn there is no sum
+pub count-end : (v : Cells) (hist : ℕ) (window eps : Float) (k : ℕ) (s : Walk) (so-far total : ℕ) → k ≤ 0
+    → so-far + comparisonsFrom v hist window eps k s ≡ total → so-far ≡ total
+unfolding comparisonsFrom
+count-end v hist window eps zero s so-far total h e = omega (arith, e)
+count-end v hist window eps (suc k) s so-far total h e = absurd (omega arith)
+
+-- without a turn there is no sum and no comparison
 pub run-none : (v : Cells) (hist : ℕ) (window eps : Float) (from : ℕ) → from ≡ 0 → zero64 ≡ runOf v hist window eps from (freshWalk eps) .state .sum
 unfolding runOf freshWalk freshState
 run-none v hist window eps from e = rw e
+
+pub count-none : (v : Cells) (hist : ℕ) (window eps : Float) (from : ℕ) → from ≡ 0 → 0 ≡ comparisonsFrom v hist window eps from (freshWalk eps)
+unfolding comparisonsFrom
+count-none v hist window eps from e = rw e

@@ -18,7 +18,22 @@ use Rattle.osu_records.specs.declared.Part.{Part}
 use Rattle.osu_records.proofs.Parts.{partIn, next-part, view-part}
 use Rattle.eval_rhythm.specs.Step.{Walk}
 use Rattle.eval_rhythm.specs.Constants.{historyTimeMax}
+use Rattle.eval_rhythm.specs.Comparisons.{comparedIn, comparisonsFrom, comparisonsBy, comparisonsAtPlace}
 use Rattle.eval_rhythm.specs.Rhythm.{Cells, runOf, nearOf, startFrom, startOf, rhythmBy, cellOf, cellsAt, countBefore, rhythmAtPlace}
+
+-- the run begins at least two places short of the history
+module _ (v : Cells) (hist : ℕ) where
+  pub start-le : (left r : ℕ) → r ≤ hist - 2 → startFrom v hist left r ≤ hist - 2
+  unfolding startFrom
+  start-le zero r h = h
+  start-le (suc left) r h =
+      go (ltb (r + 2) hist) refl (Ieee.lt (v 0 .«start_time» ⊖ v (r + 1) .«start_time») historyTimeMax) (λ l. start-le left (r + 1) l)
+    where
+      go : (b : Bool) → ltb (r + 2) hist ≡ b → (c : Bool) → (r + 1 ≤ hist - 2 → startFrom v hist left (r + 1) ≤ hist - 2)
+          → cond (cond b c false) (startFrom v hist left (r + 1)) r ≤ hist - 2
+      go true e true f = let l : r + 2 < hist = ltb-true (r + 2) hist e in f (omega arith)
+      go true e false f = h
+      go false e c f = h
 
 -- ---- two views that agree as far back as the history goes
 
@@ -37,18 +52,6 @@ module _ (v w : Cells) (hist : ℕ) (same : (k : ℕ) → k ≤ hist → v k ≡
   start-same zero r = refl
   start-same (suc left) r = rw (near-same r, start-same left (r + 1))
 
-  start-le : (left r : ℕ) → r ≤ hist - 2 → startFrom v hist left r ≤ hist - 2
-  unfolding startFrom
-  start-le zero r h = h
-  start-le (suc left) r h =
-      go (ltb (r + 2) hist) refl (Ieee.lt (v 0 .«start_time» ⊖ v (r + 1) .«start_time») historyTimeMax) (λ l. start-le left (r + 1) l)
-    where
-      go : (b : Bool) → ltb (r + 2) hist ≡ b → (c : Bool) → (r + 1 ≤ hist - 2 → startFrom v hist left (r + 1) ≤ hist - 2)
-          → cond (cond b c false) (startFrom v hist left (r + 1)) r ≤ hist - 2
-      go true e true f = let l : r + 2 < hist = ltb-true (r + 2) hist e in f (omega arith)
-      go true e false f = h
-      go false e c f = h
-
   run-same : (window eps : Float) (k : ℕ) (s : Walk) → k ≤ hist - 2 → runOf v hist window eps k s ≡ runOf w hist window eps k s
   unfolding runOf
   run-same window eps zero s h = refl
@@ -56,13 +59,24 @@ module _ (v w : Cells) (hist : ℕ) (same : (k : ℕ) → k ≤ hist → v k ≡
       rw (same 0 (omega arith), same (suc k) (omega arith), same (suc k + 1) (omega arith), same (suc k + 2) (omega arith))
       (run-same window eps k _ (omega arith))
 
+  count-same : (window eps : Float) (k : ℕ) (s : Walk) → k ≤ hist - 2 → comparisonsFrom v hist window eps k s ≡ comparisonsFrom w hist window eps k s
+  unfolding comparisonsFrom
+  count-same window eps zero s h = refl
+  count-same window eps (suc k) s h =
+      rw (same 0 (omega arith), same (suc k) (omega arith), same (suc k + 1) (omega arith), same (suc k + 2) (omega arith))
+      (ap (λ (c : ℕ). comparedIn s (w (suc k)) (w (suc k + 1)) (w (suc k + 2)) eps + c) (count-same window eps k _ (omega arith)))
+
+  pub counts-same : (window : Float) → comparisonsBy v hist window ≡ comparisonsBy w hist window
+  unfolding comparisonsBy startOf
+  counts-same window = rw (count-same _ _ (startFrom v hist hist 0) _ (start-le v hist hist 0 (omega arith)), start-same hist 0, same 0 (omega arith))
+
   pub view-same : (hasNext : Bool) (next other window : Float) → (hasNext ≡ true → next ≡ other)
       → rhythmBy v hist hasNext next window ≡ rhythmBy w hist hasNext other window
   unfolding rhythmBy startOf
   view-same true next other window e =
-      rw (run-same _ _ (startFrom v hist hist 0) _ (start-le hist 0 (omega arith)), start-same hist 0, same 0 (omega arith), e refl)
+      rw (run-same _ _ (startFrom v hist hist 0) _ (start-le v hist hist 0 (omega arith)), start-same hist 0, same 0 (omega arith), e refl)
   view-same false next other window e =
-      rw (run-same _ _ (startFrom v hist hist 0) _ (start-le hist 0 (omega arith)), start-same hist 0, same 0 (omega arith))
+      rw (run-same _ _ (startFrom v hist hist 0) _ (start-le v hist hist 0 (omega arith)), start-same hist 0, same 0 (omega arith))
 
 -- the cells as far back as the history goes, and the next one's delta time: at any two places with as many records before them that count
 pub rhythm-same : (os ps : ℕ → Object) (rs qs : ℕ → OsuDifficultyObject) (last end j i : ℕ) (window : Float)
@@ -74,6 +88,13 @@ pub rhythm-same : (os ps : ℕ → Object) (rs qs : ℕ → OsuDifficultyObject)
 rhythm-same os ps rs qs last end j i window before cells has next =
     rw (← before, ← has)
     (view-same (cellsAt os rs j) (cellsAt ps qs i) (countBefore j) cells (ltb j last) _ _ window (λ b. next (ltb-true j last b)))
+
+-- the comparisons are of the same cells
+pub comparisons-same : (os ps : ℕ → Object) (rs qs : ℕ → OsuDifficultyObject) (j i : ℕ) (window : Float)
+    → countBefore j ≡ countBefore i
+    → ((k : ℕ) → k ≤ countBefore j → cellsAt os rs j k ≡ cellsAt ps qs i k)
+    → comparisonsAtPlace os rs j window ≡ comparisonsAtPlace ps qs i window
+comparisons-same os ps rs qs j i window before cells = rw (← before) (counts-same (cellsAt os rs j) (cellsAt ps qs i) (countBefore j) cells window)
 
 -- ---- the part that is lent
 
@@ -94,10 +115,16 @@ pub few-steps : (from k hist : ℕ) → hist ≤ 32 → from ≤ hist - 2 → fr
 few-steps from k hist h l = omega arith
 
 -- what the part lent at place j of n gives
-pub rhythm-part : (os : ℕ → Object) (t : List Float) (n j : ℕ) (part : Part) (window : Float) → 1 ≤ j → j < n → part .first ≡ firstPlace j → part .last ≡ lastPlace j n
-    → rhythmAtPlace os (partAt (partIn t part) part) (part .last) j window ≡ rhythmAtPlace os (recordAt t) (lastPlace j n) j window
-rhythm-part os t n j part window one inside f l =
-    rhythm-same os os (partAt (partIn t part) part) (recordAt t) (part .last) (lastPlace j n) j j window refl
-    (λ k h. ap cellOf (view-part t j n part one inside f l os 32 k (omega arith) h))
-    (ap (ltb j) l)
-    (λ h. ap (λ (r : OsuDifficultyObject). r .«delta_time») (next-part t j n part one inside f l h))
+module _ (os : ℕ → Object) (t : List Float) (n j : ℕ) (part : Part) (window : Float) (one : 1 ≤ j) (inside : j < n) (f : part .first ≡ firstPlace j)
+    (l : part .last ≡ lastPlace j n) where
+  cells-part : (k : ℕ) → k ≤ countBefore j → cellsAt os (partAt (partIn t part) part) j k ≡ cellsAt os (recordAt t) j k
+  cells-part k h = ap cellOf (view-part t j n part one inside f l os 32 k (omega arith) h)
+
+  pub rhythm-part : rhythmAtPlace os (partAt (partIn t part) part) (part .last) j window ≡ rhythmAtPlace os (recordAt t) (lastPlace j n) j window
+  rhythm-part =
+      rhythm-same os os (partAt (partIn t part) part) (recordAt t) (part .last) (lastPlace j n) j j window refl cells-part
+      (ap (ltb j) l)
+      (λ h. ap (λ (r : OsuDifficultyObject). r .«delta_time») (next-part t j n part one inside f l h))
+
+  pub comparisons-part : comparisonsAtPlace os (partAt (partIn t part) part) j window ≡ comparisonsAtPlace os (recordAt t) j window
+  comparisons-part = comparisons-same os os (partAt (partIn t part) part) (recordAt t) j j window refl cells-part

@@ -4,3 +4,4 @@ pub mod Search
 pub mod Good
 pub mod History
 pub mod Laws
+pub mod Bounded

@@ -3,3 +3,4 @@ pub mod Island
 pub mod Counts
 pub mod Step
 pub mod Rhythm
+pub mod Comparisons

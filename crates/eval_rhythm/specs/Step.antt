@@ -163,10 +163,11 @@ deltasOf curr prev last = record { curr = atLeast (curr .«delta_time»); prev =
 unfoldable pub stepOf : Walk → Cell → Cell → Cell → Float → Float → Float → Walk
 stepOf w curr prev last decay window eps = stepBy w (deltasOf curr prev last) curr prev decay window eps
 
--- what holds after m turns
+-- what holds after m turns, the first of which begins an island at most
 pub record Good (m : ℕ) (eps : Float) (w : Walk) : Type 0 where
   pub island-ok : IslandOk m (w .state .island)
   pub island-eps : w .state .island .«delta_difference_eps» ≡ eps
   pub prev-ok : IslandOk m (w .state .«prev_island»)
   pub counts-ok : CountsOk m (w .counts)
-  pub few : w .state .n ≤ m
+  pub begun : w .state .«first_delta_switch» ≡ true → 1 ≤ m
+  pub few : w .state .n ≤ m - 1

@@ -6,6 +6,7 @@ ghost use lib.ListN.{getD, set, length};
 ghost use lib.Signed.{nonNeg};
 ghost use Rattle.eval_rhythm.specs.Island.{maxZ, distZ, newIsland, newWithDelta, settledOf, addDelta, similarOf, defaultOf, sameOf, IslandOk};
 ghost use Rattle.eval_rhythm.specs.Counts.{entriesOf, noCount, findFrom, placeOf, bumpedOf, entryOf, CountOk, CountsOk};
+ghost use Rattle.eval_rhythm.specs.Comparisons.{comparedOf};
 
 const MIN_DELTA_TIME: i32 = 25;
 
@@ -24,6 +25,12 @@ pub struct RhythmIsland {
 pub struct IslandCount {
     pub island: RhythmIsland,
     pub count: u32,
+}
+
+// What a search gives: the place of the island, and how many entries it was compared with.
+pub struct Search {
+    pub place: usize,
+    pub compared: usize,
 }
 
 // The larger of two numbers.
@@ -196,7 +203,7 @@ pub fn find(
     i
 }
 
-// The place of an island that is counted already; n where it is new.
+// The place of an island that is counted already, n where it is new; and the entries up to the first match, or all of them.
 pub fn place_of(
     deltas: &[i32; 32],
     delta_counts: &[i32; 32],
@@ -204,21 +211,29 @@ pub fn place_of(
     n: usize,
     island: RhythmIsland,
     eps: f64,
-) -> usize
+) -> Search
     requires { ⌜ (n ≤ 32) × (nonNeg (island .delta) ≡ true) × (CountsOk 31 (entriesOf eps (now deltas) (now «delta_counts») (now counts))) ⌝ }
-    ensures { λ r. ⌜ (r ≡ placeOf (entriesOf eps (now (deltas .entry)) (now («delta_counts» .entry)) (now (counts .entry))) n island)
-        × (r ≤ n) ⌝ }
+    ensures { λ r. ⌜ (r .place ≡ placeOf (entriesOf eps (now (deltas .entry)) (now («delta_counts» .entry)) (now (counts .entry))) n island)
+        × (r .place ≤ n)
+        × (r .compared ≡ comparedOf (entriesOf eps (now (deltas .entry)) (now («delta_counts» .entry)) (now (counts .entry))) n island) ⌝ }
 {
     let at = find(deltas, delta_counts, counts, n, island, eps);
     if at < n {
+        let compared = at + 1;
         let entry = entry_at(deltas, delta_counts, counts, eps, at);
         let found = entry.island;
         if found.is_default() {
-            return n;
+            return Search { place: n, compared };
         }
-        return at;
+        return Search {
+            place: at,
+            compared,
+        };
     }
-    n
+    Search {
+        place: n,
+        compared: n,
+    }
 }
 
 // Counted once more, where the island goes after an equal one.

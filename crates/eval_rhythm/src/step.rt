@@ -6,6 +6,7 @@ ghost use Rattle.eval_rhythm.specs.Island.{IslandOk};
 ghost use Rattle.eval_rhythm.specs.Step.{scaledOf, effectiveOf, decayOf, fasterTwice, switchRatio};
 ghost use Rattle.eval_rhythm.specs.Step.{factorOf, lastRatio, progressedOf, beganOf, switchedOf};
 ghost use Rattle.eval_rhythm.specs.Step.{walkOf, freshState, switchStep, stepBy, stepOf, Good};
+ghost use Rattle.eval_rhythm.specs.Comparisons.{comparedAt, comparedBy, comparedIn};
 use crate::HISTORY_TIME_MAX;
 use crate::island;
 use crate::island::RhythmIsland;
@@ -23,6 +24,12 @@ pub struct RhythmState {
     pub start_ratio: f64,
     pub sum: f64,
     pub n: usize,
+}
+
+// What a turn gives: the state after it, and how many entries its search compared.
+pub struct Turn {
+    pub state: RhythmState,
+    pub compared: usize,
 }
 
 // What the evaluator reads of a record and its base object.
@@ -220,15 +227,17 @@ impl RhythmState {
         decay: f64,
         window: f64,
         eps: f64,
-    ) -> Self
+    ) -> Turn
         requires { ⌜ Good 31 eps (walkOf self eps (now deltas) (now «delta_counts») (now counts)) ⌝ }
-        ensures { λ r. ⌜ walkOf r eps (now (deltas .exit)) (now («delta_counts» .exit)) (now (counts .exit))
-            ≡ switchStep (walkOf self eps (now (deltas .entry)) (now («delta_counts» .entry)) (now (counts .entry))) ratio d curr prev decay window eps ⌝ }
+        ensures { λ r. ⌜ (walkOf (r .state) eps (now (deltas .exit)) (now («delta_counts» .exit)) (now (counts .exit))
+            ≡ switchStep (walkOf self eps (now (deltas .entry)) (now («delta_counts» .entry)) (now (counts .entry))) ratio d curr prev decay window eps)
+            × (r .compared ≡ comparedAt (walkOf self eps (now (deltas .entry)) (now («delta_counts» .entry)) (now (counts .entry)))) ⌝ }
     {
         let n = self.n;
         let island = self.island;
         let prev_island = self.prev_island;
-        let i = island::place_of(deltas, delta_counts, counts, n, island, eps);
+        let search = island::place_of(deltas, delta_counts, counts, n, island, eps);
+        let i = search.place;
         let e = island::entry_of(deltas, delta_counts, counts, n, i, island, prev_island, eps);
         island::put_entry(deltas, delta_counts, counts, i, e);
         let similar = island.is_similar_polarity(prev_island);
@@ -240,7 +249,11 @@ impl RhythmState {
         let repeated = i < n;
         let last = last_ratio(r, repeated, island.delta, e.count, tap);
         let on = !(d.prev + eps < d.curr);
-        self.switched(last, repeated, on, decay, num_whole::to_i32(d.curr), eps)
+        let state = self.switched(last, repeated, on, decay, num_whole::to_i32(d.curr), eps);
+        Turn {
+            state,
+            compared: search.compared,
+        }
     }
 
     // By the deltas: the island goes on, another begins, or nothing changes.
@@ -255,15 +268,17 @@ impl RhythmState {
         decay: f64,
         window: f64,
         eps: f64,
-    ) -> Self
+    ) -> Turn
         requires { ⌜ Good 31 eps (walkOf self eps (now deltas) (now «delta_counts») (now counts)) ⌝ }
-        ensures { λ r. ⌜ walkOf r eps (now (deltas .exit)) (now («delta_counts» .exit)) (now (counts .exit))
-            ≡ stepBy (walkOf self eps (now (deltas .entry)) (now («delta_counts» .entry)) (now (counts .entry))) d curr prev decay window eps ⌝ }
+        ensures { λ r. ⌜ (walkOf (r .state) eps (now (deltas .exit)) (now («delta_counts» .exit)) (now (counts .exit))
+            ≡ stepBy (walkOf self eps (now (deltas .entry)) (now («delta_counts» .entry)) (now (counts .entry))) d curr prev decay window eps)
+            × (r .compared ≡ comparedBy (walkOf self eps (now (deltas .entry)) (now («delta_counts» .entry)) (now (counts .entry))) d eps) ⌝ }
     {
         let ratio = effective(d.prev, d.curr, eps);
         if self.first_delta_switch {
             if num_floats::abs(d.prev - d.curr) < eps {
-                return self.progressed(num_whole::to_i32(d.curr));
+                let state = self.progressed(num_whole::to_i32(d.curr));
+                return Turn { state, compared: 0 };
             }
             return self.switch_step(
                 deltas,
@@ -280,9 +295,13 @@ impl RhythmState {
         }
         if d.prev > d.curr + eps {
             let r = scaled(scaled(ratio, curr.slider, 0.6), prev.slider, 0.6);
-            return self.began(r, num_whole::to_i32(d.curr), eps);
+            let state = self.began(r, num_whole::to_i32(d.curr), eps);
+            return Turn { state, compared: 0 };
         }
-        self
+        Turn {
+            state: self,
+            compared: 0,
+        }
     }
 
     // A turn of the loop.
@@ -295,11 +314,13 @@ impl RhythmState {
         decay: f64,
         window: f64,
         eps: f64,
-    ) -> Self
+    ) -> Turn
         requires { ⌜ Good 31 eps (walkOf self eps (now deltas) (now «delta_counts») (now counts)) ⌝ }
-        ensures { λ r. ⌜ walkOf r eps (now (deltas .exit)) (now («delta_counts» .exit)) (now (counts .exit))
+        ensures { λ r. ⌜ (walkOf (r .state) eps (now (deltas .exit)) (now («delta_counts» .exit)) (now (counts .exit))
             ≡ stepOf (walkOf self eps (now (deltas .entry)) (now («delta_counts» .entry)) (now (counts .entry)))
-            (cells .curr) (cells .prev) (cells .last) decay window eps ⌝ }
+            (cells .curr) (cells .prev) (cells .last) decay window eps)
+            × (r .compared ≡ comparedIn (walkOf self eps (now (deltas .entry)) (now («delta_counts» .entry)) (now (counts .entry)))
+            (cells .curr) (cells .prev) (cells .last) eps) ⌝ }
     {
         let curr = cells.curr;
         let prev = cells.prev;

@@ -1,6 +1,7 @@
 -- `eval_rhythm::step::RhythmState::step_by` meets its contract. Assumes nothing.
 use mathlib.Core.Path.{_∙_}
 use Rattle.eval_rhythm.specs.Step.{stepBy}
+use Rattle.eval_rhythm.specs.Comparisons.{comparedBy}
 use Rattle.eval_rhythm.proofs.Signed.{back-ok}
 use borrow.Author.Needs.{needs}
 use Rattle.eval_rhythm.proofs.step.RhythmState.step_by.Statement.{statement}
@@ -19,17 +20,22 @@ progressed-requires : tie.Need-progressed-requires
 progressed-requires c κs = c .before .before .before .before .before .before .pre .island-ok
 
 returns : tie.Need-returns
-unfolding stepBy
-returns c =
-    simp (c .progressed .ensures, c .before .before .if2 .taken, ← c .before .before .before .abs .ensures, c .before .before .before .before .before .if1 .taken)
-    (simp (back-ok (c .before .to-i32 .result) (c .before .to-i32 .ok)) (simp (c .before .to-i32 .ensures)))
+unfolding stepBy comparedBy
+returns c = (
+  simp (c .progressed .ensures, c .before .before .if2 .taken, ← c .before .before .before .abs .ensures, c .before .before .before .before .before .if1 .taken)
+      (simp (back-ok (c .before .to-i32 .result) (c .before .to-i32 .ok)) (simp (c .before .to-i32 .ensures))),
+  simp (c .before .before .if2 .taken, ← c .before .before .before .abs .ensures, c .before .before .before .before .before .if1 .taken),
+)
 
 switch-step-requires : tie.Need-switch-step-requires
 switch-step-requires c κs = c .before .before .before .before .before .before .before .before .pre
 
 returns-2 : tie.Need-returns-2
-unfolding stepBy
-returns-2 c = c .switch-step .ensures ∙ simp (c .before .before .before .before .if2 .left, ← c .before .before .before .before .before .abs .ensures, c .before .before .before .before .before .before .before .if1 .taken, c .before .before .before .before .before .before .before .before .effective .ensures)
+unfolding stepBy comparedBy
+returns-2 c = (
+  c .switch-step .ensures .0 ∙ simp (c .before .before .before .before .if2 .left, ← c .before .before .before .before .before .abs .ensures, c .before .before .before .before .before .before .before .if1 .taken, c .before .before .before .before .before .before .before .before .effective .ensures),
+  c .switch-step .ensures .1 ∙ simp (c .before .before .before .before .if2 .left, ← c .before .before .before .before .before .abs .ensures, c .before .before .before .before .before .before .before .if1 .taken),
+)
 
 scaled-requires : tie.Need-scaled-requires
 scaled-requires c κs = search needs
@@ -44,14 +50,16 @@ began-requires : tie.Need-began-requires
 began-requires c κs = search needs
 
 returns-3 : tie.Need-returns-3
-unfolding stepBy
-returns-3 c =
-    simp (c .began .ensures, c .before .before .scaled2 .ensures, c .before .before .before .scaled .ensures, c .before .before .before .before .if3 .taken, c .before .before .before .before .before .before .before .if1 .left, c .before .before .before .before .before .before .before .before .effective .ensures)
-    (simp (back-ok (c .before .to-i322 .result) (c .before .to-i322 .ok)) (simp (c .before .to-i322 .ensures)))
+unfolding stepBy comparedBy
+returns-3 c = (
+  simp (c .began .ensures, c .before .before .scaled2 .ensures, c .before .before .before .scaled .ensures, c .before .before .before .before .if3 .taken, c .before .before .before .before .before .before .before .if1 .left, c .before .before .before .before .before .before .before .before .effective .ensures)
+      (simp (back-ok (c .before .to-i322 .result) (c .before .to-i322 .ok)) (simp (c .before .to-i322 .ensures))),
+  simp (c .before .before .before .before .before .before .before .if1 .left),
+)
 
 returns-4 : tie.Need-returns-4
-unfolding stepBy
-returns-4 c = simp (c .if3 .left, c .before .before .before .if1 .left)
+unfolding stepBy comparedBy
+returns-4 c = (simp (c .if3 .left, c .before .before .before .if1 .left), simp (c .before .before .before .if1 .left))
 
 pub step-by-spec : {M : Type 1} → statement M
 step-by-spec =

@@ -49,10 +49,12 @@ returns c =
     let z : SFits w32 (c .before .before .before .before .before .before .before .before .before .before .before .before .before .before .before .before .before .before .before .before .before .before .before .before .before .before .before .before .before .args .self .island .delta) = search needs in
     let last = simp (back _ z) at (c .before .before .before .before .last-ratio .ensures) in
     let next = simp (c .before .to-i32 .ensures) at (simp (back-ok (c .before .to-i32 .result) (c .before .to-i32 .ok)) at (c .switched .ensures)) in
-    let put = eps-put _ _ _ _ _ _ _ _ _ (c .before .before .before .before .before .before .before .before .before .before .before .before .before .before .before .before .before .before .before .entry-of .result) (c .before .before .before .before .before .before .before .before .before .before .before .before .before .before .before .before .before .before .before .entry-of .ensures .1) (c .before .before .before .before .before .before .before .before .before .before .before .before .before .before .before .put-entry .ensures) in
-    switch-is (walkOf (c .before .before .before .before .before .before .before .before .before .before .before .before .before .before .before .before .before .before .before .before .before .before .before .before .before .before .before .before .before .args .self) (c .before .before .before .before .before .before .before .before .before .before .before .before .before .before .before .before .before .before .before .before .before .before .before .before .before .before .before .before .before .args .eps) (now (c .before .before .before .before .before .before .before .before .before .before .before .before .before .before .before .before .before .before .before .before .before .before .before .before .before .before .before .before .before .args .deltas)) (now (c .before .before .before .before .before .before .before .before .before .before .before .before .before .before .before .before .before .before .before .before .before .before .before .before .before .before .before .before .before .args .delta-counts)) (now (c .before .before .before .before .before .before .before .before .before .before .before .before .before .before .before .before .before .before .before .before .before .before .before .before .before .before .before .before .before .args .counts))) _ _ _ _ _ _ _ _ _ _ _ _ _ _ _ _ _
-    (c .before .before .before .before .before .before .before .before .before .before .before .before .before .before .before .before .before .before .before .before .before .before .before .place-of .ensures .0) (c .before .before .before .before .before .before .before .before .before .before .before .before .before .before .before .before .before .before .before .entry-of .ensures .0) put (c .before .before .before .before .before .before .before .before .before .before .before .before .before .before .is-similar-polarity .ensures) (c .before .before .before .before .before .before .before .before .before .before .before .before .before .faster-twice .ensures)
-    (c .before .before .before .before .before .before .before .before .switch-ratio .ensures) (c .before .before .before .before .before .before .before .window-of .ensures) (c .before .before .before .before .before .before .tapness .ensures) last next
+    let put = eps-put _ _ _ _ _ _ _ _ _ (c .before .before .before .before .before .before .before .before .before .before .before .before .before .before .before .before .before .before .before .entry-of .result) (c .before .before .before .before .before .before .before .before .before .before .before .before .before .before .before .before .before .before .before .entry-of .ensures .1) (c .before .before .before .before .before .before .before .before .before .before .before .before .before .before .before .put-entry .ensures) in (
+      switch-is (walkOf (c .before .before .before .before .before .before .before .before .before .before .before .before .before .before .before .before .before .before .before .before .before .before .before .before .before .before .before .before .before .args .self) (c .before .before .before .before .before .before .before .before .before .before .before .before .before .before .before .before .before .before .before .before .before .before .before .before .before .before .before .before .before .args .eps) (now (c .before .before .before .before .before .before .before .before .before .before .before .before .before .before .before .before .before .before .before .before .before .before .before .before .before .before .before .before .before .args .deltas)) (now (c .before .before .before .before .before .before .before .before .before .before .before .before .before .before .before .before .before .before .before .before .before .before .before .before .before .before .before .before .before .args .delta-counts)) (now (c .before .before .before .before .before .before .before .before .before .before .before .before .before .before .before .before .before .before .before .before .before .before .before .before .before .before .before .before .before .args .counts))) _ _ _ _ _ _ _ _ _ _ _ _ _ _ _ _ _
+          (c .before .before .before .before .before .before .before .before .before .before .before .before .before .before .before .before .before .before .before .before .before .before .before .place-of .ensures .0) (c .before .before .before .before .before .before .before .before .before .before .before .before .before .before .before .before .before .before .before .entry-of .ensures .0) put (c .before .before .before .before .before .before .before .before .before .before .before .before .before .before .is-similar-polarity .ensures) (c .before .before .before .before .before .before .before .before .before .before .before .before .before .faster-twice .ensures)
+          (c .before .before .before .before .before .before .before .before .switch-ratio .ensures) (c .before .before .before .before .before .before .before .window-of .ensures) (c .before .before .before .before .before .before .tapness .ensures) last next,
+      c .before .before .before .before .before .before .before .before .before .before .before .before .before .before .before .before .before .before .before .before .before .before .before .place-of .ensures .2,
+    )
 
 pub switch-step-spec : {M : Type 1} → statement M
 switch-step-spec =

@@ -1,0 +1,89 @@
+// Lists the rhythm values of charts with their comparisons. Standard input has for each chart its length (u32, little-endian) and its bytes. Of a
+// chart that is opened the number of objects is printed, for each place from 1 on its rhythm value as bits and how often an island was compared, and
+// the largest of these counts; of any other the refusal.
+ghost use Prim.Native.Nat.{_*_, _≤_};
+ghost use lib.ListN.{length};
+ghost use Rattle.chart_fields.specs.Objects.{Holds};
+use chart_fields::Layout;
+use chart_opening::Verdict;
+use eval_rhythm::Counted;
+
+// Charts that are read at most.
+const MOST: usize = 65536;
+
+fn larger(a: usize, b: usize) -> usize {
+    if a < b { b } else { a }
+}
+
+// The line of place j.
+fn put_place(out: &mut [u8], at: usize, j: usize, r: Counted) -> usize {
+    let place = text::put_decimal(out, at, j as u64);
+    let value = lines::put_f64(out, place, r.value);
+    let space = text::put(out, value, b' ');
+    let comparisons = text::put_decimal(out, space, r.comparisons as u64);
+    text::put(out, comparisons, b'\n')
+}
+
+// The line of the largest count.
+fn put_most(out: &mut [u8], at: usize, most: usize) -> usize {
+    let word = text::put_all(out, at, b"most ");
+    let count = text::put_decimal(out, word, most as u64);
+    text::put(out, count, b'\n')
+}
+
+// All lines of a chart with its records, written.
+fn show_places(out: &mut [u8], chart: &[u8], lay: Layout, window: f64, t: &[f64])
+    requires { ⌜ Holds (now chart) lay × (16 * lay .n ≤ length (now t)) ⌝ }
+{
+    let n = lay.n;
+    let mut end = lines::put_count(out, 0, n);
+    let mut most: usize = 0;
+    let mut j = 1;
+    while j < n {
+        let r = eval_rhythm::evaluate_counted(t, chart, lay, j, window);
+        end = text::show_if_full(out, end);
+        end = put_place(out, end, j, r);
+        most = larger(most, r.comparisons);
+        j += 1;
+    }
+    end = put_most(out, end, most);
+    text::show(out, end);
+}
+
+// The lines of one chart.
+fn answer(out: &mut [u8], chart: &[u8], t: &mut [f64])
+    requires { ⌜ 16384 ≤ length (now t) ⌝ }
+{
+    match chart_opening::check(chart, 1024) {
+        Verdict::Refused(r) => lines::show_refusal(out, r),
+        Verdict::Accepted => {
+            let lay = chart_opening::layout_of(chart);
+            let set = chart_opening::settings_at(chart, 32);
+            osu_records::fill(chart, lay, set, t);
+            show_places(out, chart, lay, set.hit_window, t);
+        }
+    }
+}
+
+// Charts to the end of the input.
+fn run(out: &mut [u8], chart: &mut [u8], t: &mut [f64])
+    requires { ⌜ 16384 ≤ length (now t) ⌝ }
+{
+    let mut left = MOST;
+    while 0 < left {
+        let n = text::read_chart(chart);
+        if n <= chart.len() {
+            answer(out, &chart[0..n], t);
+            left -= 1;
+        } else {
+            left = 0;
+        }
+    }
+}
+
+fn main() {
+    let mut out = io::large_buffer();
+    let mut chart = io::large_buffer();
+    let mut t = [0.0f64; 16384];
+    run(&mut out[..], &mut chart[..], &mut t[..]);
+}
