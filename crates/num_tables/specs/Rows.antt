@@ -7,10 +7,10 @@ use native.Mathlib.Nat.{suc-add, zero-add, add-zero, add-suc, mul-suc, mul-le-mu
 use native.Mathlib.Omega.{arith}
 use native.Mathlib.Decide.{decLt}
 use lib.ListN.{length, take, drop, length-append, length-drop}
-use lib.Seq.{take-nil, take-append-le, take-take, drop-drop, take-at, drop-at, length-take-le, drop-append-seam, sets, sets-eq}
+use lib.Seq.{take-nil, take-append-le, drop-append-le, take-take, drop-drop, take-at, drop-at, length-take-le, drop-append-seam, sets, sets-eq}
 use Rattle.num_tables.specs.Parts.{part, put, row, fill}
 
-rows-apart : (w : ℕ) {i j : ℕ} → i < j → w * i + w ≤ w * j
+pub rows-apart : (w : ℕ) {i j : ℕ} → i < j → w * i + w ≤ w * j
 rows-apart w {i} {j} h = rw mul-suc at (mul-le-mul-left w h)
 
 module _ {ℓ} {A : Type ℓ} where
@@ -57,6 +57,19 @@ module _ {ℓ} {A : Type ℓ} where
   pub part-put-after : (i n at : ℕ) (vs l : List A) → at + length vs ≤ i → at + length vs ≤ length l → part i n (put at vs l) ≡ part i n l
   unfolding part
   part-put-after i n at vs l h k = ap (take n) (drop-put i at vs l h k)
+
+  -- a list that goes on as r
+  pub part-append : (at n : ℕ) (l r : List A) → at + n ≤ length l → part at n (l ++ r) ≡ part at n l
+  unfolding part
+  part-append at n l r h =
+      ap (take n) (drop-append-le at l r (omega arith)) ∙ take-append-le n (drop at l) r (simp length-drop (omega arith))
+
+  pub put-append : (at : ℕ) (vs l r : List A) → at + length vs ≤ length l → put at vs l ++ r ≡ put at vs (l ++ r)
+  unfolding put
+  put-append at vs l r h =
+      append-assoc (take at l) (vs ++ drop (at + length vs) l) r ∙
+      (ap (λ (x : List A). take at l ++ x) (append-assoc vs (drop (at + length vs) l) r) ∙
+      (λ t. sym (take-append-le at l r (omega arith)) t ++ (vs ++ sym (drop-append-le (at + length vs) l r h) t)))
 
   -- rows
   pub row-put-same : (w j : ℕ) (vs t : List A) → length vs ≡ w → w * suc j ≤ length t → row w (put (w * j) vs t) j ≡ vs
@@ -129,6 +142,13 @@ module _ {ℓ} {A : Type ℓ} where
     drop-fill lo (suc n) m t k h =
         drop-fill (suc lo) n m (put (w * lo) (f lo) t) (λ p. omega (arith, k (omega arith))) (rest lo n t h) ∙
         drop-put (w * m) (w * lo) (f lo) t (rw wide (rows-apart w {i = lo} {j = m} (omega (arith, k (omega arith))))) (fits lo n t h)
+
+    pub fill-append : (lo n : ℕ) (l r : List A) → (0 < n → w * (lo + n) ≤ length l) → fill w f lo n l ++ r ≡ fill w f lo n (l ++ r)
+    unfolding fill
+    fill-append lo zero l r h = refl
+    fill-append lo (suc n) l r h =
+        fill-append (suc lo) n (put (w * lo) (f lo) l) r (rest lo n l h) ∙
+        ap (fill w f (suc lo) n) (put-append (w * lo) (f lo) l r (fits lo n l h))
 
     room : (lo n : ℕ) (t : List A) → (0 < suc n → w * (lo + suc n) ≤ length t) → w * suc lo ≤ length t
     room lo n t h = omega (arith, rows-apart w {i = lo} {j = lo + suc n} (omega arith), mul-suc w lo, h (omega arith))
