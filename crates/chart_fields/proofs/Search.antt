@@ -81,3 +81,13 @@ clean-from bad (suc k) i j h l = go (bad i) refl (clean-from bad k (suc i) j) (d
 pub clean : (bad : ℕ → Bool) (n j : ℕ) → j < firstBelow bad n → bad j ≡ false
 unfolding firstBelow
 clean bad n j h = clean-from bad n 0 j (omega arith) h
+
+-- two tests that agree below n
+from-same : (bad bad′ : ℕ → Bool) (k i : ℕ) → ((j : ℕ) → j < i + k → bad j ≡ bad′ j) → firstFrom bad k i ≡ firstFrom bad′ k i
+unfolding firstFrom
+from-same bad bad′ zero i f = refl
+from-same bad bad′ (suc k) i f = cc (f i (omega arith), from-same bad bad′ k (suc i) (λ j l. f j (omega arith)))
+
+pub first-same : (bad bad′ : ℕ → Bool) (n : ℕ) → ((j : ℕ) → j < n → bad j ≡ bad′ j) → firstBelow bad n ≡ firstBelow bad′ n
+unfolding firstBelow
+first-same bad bad′ n f = from-same bad bad′ n 0 (λ j l. f j (omega arith))

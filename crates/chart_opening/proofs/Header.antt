@@ -6,12 +6,12 @@ use mathlib.Core.List.{List}
 use lib.Dec.{eqb}
 use lib.ListN.{length}
 use native.Mathlib.Omega.{arith}
-use borrow.Author.Tests.{leb-true, eqb-true}
+use borrow.Author.Tests.{leb-true, eqb-true, le-leb, eq-eqb}
 use Rattle.num_floats.specs.Fields.{u32At}
 use Rattle.chart_fields.specs.Limits.{headerSize, pointSize, mostObjects, mostEntries}
 use Rattle.chart_fields.specs.Objects.{Holds}
 use Rattle.chart_fields.specs.declared.Layout.{Layout}
-use Rattle.chart_opening.specs.Header.{layoutOf, countsOk, offsetsOk, headerOk}
+use Rattle.chart_opening.specs.Header.{layoutOf, countsOk, offsetsOk, reservedOk, headerOk, chartLength, layoutEnd}
 
 pub both : (a b : Bool) → (a && b) ≡ true → (a ≡ true) × (b ≡ true)
 both true b e = (refl, e)
@@ -29,6 +29,10 @@ few lay e =
     let a = both _ _ (ab .0) in
     record { objects = leb-true _ _ (a .0); nested = leb-true _ _ (a .1); points = leb-true _ _ (ab .1) }
 
+pub few-by : (lay : Layout) → Few lay → countsOk lay ≡ true
+unfolding countsOk
+few-by lay f = simp (le-leb (lay .n) mostObjects (f .objects), le-leb (lay .nested) mostEntries (f .nested), le-leb (lay .points) mostEntries (f .points))
+
 -- the tables' ends fit a word
 pub ends-fit : (s : List ℕ) → countsOk (layoutOf s) ≡ true → layoutOf s .«points_at» + pointSize * layoutOf s .points < 2 ^ 64
 unfolding layoutOf
@@ -39,6 +43,7 @@ pub record Parts (s : List ℕ) : Type 0 where
   pub long : headerSize ≤ length s
   pub counts : countsOk (layoutOf s) ≡ true
   pub offsets : offsetsOk s (layoutOf s) ≡ true
+  pub reserved : reservedOk s ≡ true
 
 pub parts : (s : List ℕ) → headerOk s ≡ true → Parts s
 unfolding headerOk
@@ -46,18 +51,52 @@ parts s e =
     let abc = both _ _ e in
     let ab = both _ _ (abc .0) in
     let a = both _ _ (ab .0) in
-    record { long = leb-true _ _ (a .0); counts = a .1; offsets = ab .1 }
+    record { long = leb-true _ _ (a .0); counts = a .1; offsets = ab .1; reserved = abc .1 }
 
-end-at : (s : List ℕ) (lay : Layout) → offsetsOk s lay ≡ true → lay .«points_at» + pointSize * lay .points ≡ length s
+pub header-by : (s : List ℕ) → Parts s → headerOk s ≡ true
+unfolding headerOk
+header-by s p = simp (le-leb headerSize (length s) (p .long), p .counts, p .offsets, p .reserved)
+
+-- what the offsets and the length say
+pub record Offsets (s : List ℕ) (lay : Layout) : Type 0 where
+  pub objects : u32At s 12 ≡ headerSize
+  pub nested : u32At s 16 ≡ lay .«nested_at»
+  pub points : u32At s 20 ≡ lay .«points_at»
+  pub ends : chartLength s ≡ layoutEnd lay
+  pub fits : chartLength s ≤ length s
+
+pub offsets : (s : List ℕ) (lay : Layout) → offsetsOk s lay ≡ true → Offsets s lay
 unfolding offsetsOk
-end-at s lay e = eqb-true _ _ (both (eqb (u32At s 12) headerSize && eqb (u32At s 16) (lay .«nested_at») && eqb (u32At s 20) (lay .«points_at») && eqb (u32At s 24) (length s)) _ e .1)
+offsets s lay e =
+    let abcde = both (eqb (u32At s 12) headerSize && eqb (u32At s 16) (lay .«nested_at») && eqb (u32At s 20) (lay .«points_at») && eqb (chartLength s) (layoutEnd lay)) _ e in
+    let abcd = both (eqb (u32At s 12) headerSize && eqb (u32At s 16) (lay .«nested_at») && eqb (u32At s 20) (lay .«points_at»)) _ (abcde .0) in
+    let abc = both (eqb (u32At s 12) headerSize && eqb (u32At s 16) (lay .«nested_at»)) _ (abcd .0) in
+    let ab = both (eqb (u32At s 12) headerSize) _ (abc .0) in
+    record {
+      objects = eqb-true _ _ (ab .0);
+      nested = eqb-true _ _ (ab .1);
+      points = eqb-true _ _ (abc .1);
+      ends = eqb-true _ _ (abcd .1);
+      fits = leb-true _ _ (abcde .1);
+    }
+
+pub offsets-by : (s : List ℕ) (lay : Layout) → Offsets s lay → offsetsOk s lay ≡ true
+unfolding offsetsOk
+offsets-by s lay o =
+    simp (
+      eq-eqb (u32At s 12) headerSize (o .objects),
+      eq-eqb (u32At s 16) (lay .«nested_at») (o .nested),
+      eq-eqb (u32At s 20) (lay .«points_at») (o .points),
+      eq-eqb (chartLength s) (layoutEnd lay) (o .ends),
+      le-leb (chartLength s) (length s) (o .fits),
+    )
 
 pub holds : (s : List ℕ) → headerOk s ≡ true → Holds s (layoutOf s)
 unfolding layoutOf
 holds s e =
     let p = parts s e in
     let f = few (layoutOf s) (p .counts) in
-    let end = end-at s (layoutOf s) (p .offsets) in
+    let o = offsets s (layoutOf s) (p .offsets) in
     record {
       few = f .objects;
       few-nested = f .nested;
@@ -66,5 +105,5 @@ holds s e =
       size-most = omega arith;
       objects = omega arith;
       nested-in = omega arith;
-      points-in = omega arith;
+      points-in = omega (arith, o .ends, o .fits);
     }

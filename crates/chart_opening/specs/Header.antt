@@ -29,11 +29,20 @@ layoutOf s = record {
 unfoldable pub countsOk : Layout → Bool
 countsOk lay = leb (lay .n) mostObjects && leb (lay .nested) mostEntries && leb (lay .points) mostEntries
 
--- "12, 16, 20 offsets of the three tables, 24 whole length": they say what the counts do, and the chart ends with the last point
+-- "24 whole length": the chart is the first bytes of a buffer, as many as this field says (document 02, order 1)
+abbrev pub chartLength : List ℕ → ℕ
+chartLength s = u32At s 24
+
+-- where a layout's last point ends
+abbrev pub layoutEnd : Layout → ℕ
+layoutEnd lay = lay .«points_at» + pointSize * lay .points
+
+-- "12, 16, 20 offsets of the three tables, 24 whole length": they say what the counts do, and the chart ends with the last point;
+-- order 1: "From now on the length field may be below the buffer's"
 unfoldable pub offsetsOk : List ℕ → Layout → Bool
 offsetsOk s lay =
     eqb (u32At s 12) headerSize && eqb (u32At s 16) (lay .«nested_at») && eqb (u32At s 20) (lay .«points_at»)
-    && eqb (u32At s 24) (length s) && eqb (lay .«points_at» + pointSize * lay .points) (length s)
+    && eqb (chartLength s) (layoutEnd lay) && leb (chartLength s) (length s)
 
 -- "28 zero"; "u32 at 76 flags: bit 0 hidden, bit 1 autopilot, others zero"
 unfoldable pub reservedOk : List ℕ → Bool

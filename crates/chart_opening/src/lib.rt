@@ -22,7 +22,7 @@ pub struct Settings {
     pub autopilot: bool,
 }
 
-// Why a call is refused: the eight conditions, with the offending place where they have one.
+// Why a call is refused: the nine conditions, with the offending place where they have one.
 pub enum Refusal {
     Header,
     Setting,
@@ -32,6 +32,7 @@ pub enum Refusal {
     Length,
     Table,
     Place,
+    Room,
 }
 
 // What a call that can be refused answers.
@@ -54,6 +55,7 @@ impl Refusal {
             Refusal::Length => 6,
             Refusal::Table => 7,
             Refusal::Place => 8,
+            Refusal::Room => 9,
         }
     }
 
@@ -70,6 +72,7 @@ impl Refusal {
             Refusal::Length => 0,
             Refusal::Table => 0,
             Refusal::Place => 0,
+            Refusal::Room => 0,
         }
     }
 }
@@ -100,7 +103,7 @@ fn counts_ok(lay: Layout) -> bool
     (lay.n <= 16_384) & (lay.nested <= 65_536) & (lay.points <= 65_536)
 }
 
-// Whether the header's offsets and length are those of its counts, and the chart has that length.
+// Whether the header's offsets and length are those of its counts, and the buffer has that length at least.
 fn offsets_ok(s: &[u8], lay: Layout) -> bool
     requires { ⌜ (headerSize ≤ length (now s)) × (lay .«points_at» + pointSize * lay .points < 2 ^ 64) ⌝ }
     ensures { λ r. ⌜ r ≡ offsetsOk (now (s .entry)) lay ⌝ }
@@ -108,8 +111,8 @@ fn offsets_ok(s: &[u8], lay: Layout) -> bool
     (num_floats::count_at(s, 12) == chart_fields::HEADER_SIZE)
         & (num_floats::count_at(s, 16) == lay.nested_at)
         & (num_floats::count_at(s, 20) == lay.points_at)
-        & (num_floats::count_at(s, 24) == s.len())
-        & (lay.points_at + 16 * lay.points == s.len())
+        & (num_floats::count_at(s, 24) == lay.points_at + 16 * lay.points)
+        & (num_floats::count_at(s, 24) <= s.len())
 }
 
 // Whether the word at 28 and the flags' reserved bits are 0.

@@ -1,5 +1,5 @@
 -- Conditions 3 to 6 of the chart with one object replaced are those that the call tests. Assumes nothing.
-use Prim.Native.Nat.{ℕ, _+_, _-_, _≤_, _<_}
+use Prim.Native.Nat.{ℕ, _+_, _-_, _<_}
 use mathlib.Core.Path.{_≡_, refl, sym, _∙_}
 use mathlib.Core.Bool.{Bool, true, false, not, cond, _&&_}
 use mathlib.Core.List.{List, [], _∷_}
@@ -22,12 +22,12 @@ use Rattle.chart_opening.specs.Conditions.{firstOf, refuseIf, bodyConditions, O
 use Rattle.chart_opening.specs.declared.Refusal.the-variants.{Object, Entries, Order, Length}
 use Rattle.chart_opening.specs.declared.Verdict.{Verdict}
 use Rattle.chart_opening.specs.declared.Verdict.the-variants.{Accepted, Refused}
-use Rattle.chart_replacing.specs.Local.{fallsHere, fallsNext, newStart, newTooLong, newConditions}
+use Rattle.chart_replacing.specs.Local.{fallsHere, fallsNext, newStart, newTooLong, objectConditions, newConditions}
 use Rattle.chart_replacing.specs.Replace.{putObject, placeConditions}
 use Rattle.chart_replacing.proofs.Searched.{one, two}
 use Rattle.chart_replacing.specs.Replaced as R
 
-same-rest : (v : Verdict) (us vs : List Verdict) → firstOf us ≡ firstOf vs → firstOf (v ∷ us) ≡ firstOf (v ∷ vs)
+pub same-rest : (v : Verdict) (us vs : List Verdict) → firstOf us ≡ firstOf vs → firstOf (v ∷ us) ≡ firstOf (v ∷ vs)
 unfolding firstOf
 same-rest Accepted us vs e = e
 same-rest (Refused r) us vs e = refl
@@ -74,7 +74,7 @@ module _ (s : List ℕ) (place : ℕ) (object : List ℕ)
       go true e = cc (here, elsewhere (place - 1) (λ q. omega (arith, ltb-true 0 place e)))
       go false e = refl
 
-  falls-next : (ltb (place + 1) (lay .n) && falls (putObject place object s) lay (place + 1)) ≡ fallsNext s lay place (fieldsAt object 0)
+  falls-next : (ltb (place + 1) (lay .n) && falls (putObject place object s) lay (place + 1)) ≡ fallsNext s lay (place + 1) (fieldsAt object 0)
   unfolding falls fallsNext
   falls-next =
       let z : place + 1 - 1 ≡ place = omega arith in
@@ -98,7 +98,7 @@ module _ (s : List ℕ) (place : ℕ) (object : List ℕ)
   long-new clock = cc (start-new (lay .n - 1), start-new 1)
 
   pub local : (clock : Float) → Clean s lay clock → firstOf (newConditions s lay clock place (fieldsAt object 0)) ≡ firstOf (bodyConditions (putObject place object s) lay clock)
-  unfolding newConditions bodyConditions
+  unfolding objectConditions bodyConditions
   local clock C =
       let e3 = one Object (badFields (putObject place object s) lay) (lay .n) place hp (λ j l q. fields-else j q ∙ C .fields j l) in
       let e4 = one Entries (badEntries (putObject place object s) lay) (lay .n) place hp (λ j l q. entries-else j q ∙ C .entries j l) in

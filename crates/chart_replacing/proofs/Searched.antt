@@ -1,13 +1,12 @@
 -- A refusal at the lowest place, where the test can hold at one place only, or at two neighbours. Assumes nothing.
 use Prim.Native.Nat.{ℕ, _+_, _≤_, _<_}
 use mathlib.Core.Path.{_≡_, refl, _∙_, ap}
-use mathlib.Core.Bool.{Bool, true, false, cond, _&&_}
+use mathlib.Core.Bool.{Bool, true, false, _&&_}
 use mathlib.Core.List.{List, _∷_}
 use lib.Dec.{ltb}
 use native.Mathlib.Decide.{ℕ-discrete}
 use native.Mathlib.Omega.{arith}
 use borrow.Author.Tests.{lt-ltb, le-ltb, ltb-true, ltb-false}
-use Rattle.chart_fields.specs.Search.{firstBelow}
 use Rattle.chart_fields.proofs.Search.{first-is, first-none}
 use Rattle.chart_opening.specs.Conditions.{refuseIf, refuseAt, firstOf}
 use Rattle.chart_opening.specs.declared.Refusal.{Refusal}
@@ -18,7 +17,7 @@ module _ (r : ℕ → Refusal) (bad : ℕ → Bool) (n : ℕ) where
   at-is : (p : ℕ) → p < n → ((j : ℕ) → j < p → bad j ≡ false) → bad p ≡ true → refuseAt r bad n ≡ Refused (r p)
   at-is p h f e = simp (first-is bad n p h f e, lt-ltb p n h)
 
-  at-none : ((j : ℕ) → j < n → bad j ≡ false) → refuseAt r bad n ≡ Accepted
+  pub at-none : ((j : ℕ) → j < n → bad j ≡ false) → refuseAt r bad n ≡ Accepted
   at-none f = simp (first-none bad n f, le-ltb n n (omega arith))
 
   module _ (p : ℕ) (h : p < n) where

@@ -1,15 +1,14 @@
 -- What an accepted replacement tells: of its arguments, and that the new chart opens as the old one did (`taken`). Assumes nothing.
 use Prim.Native.Nat.{ℕ, _+_, _≤_, _<_}
 use mathlib.Core.Path.{_≡_, _∙_}
-use mathlib.Core.Bool.{not}
-use mathlib.Core.List.{List, _++_}
+use mathlib.Core.List.{List}
 use lib.Dec.{ltb, eqb}
 use lib.ListN.{length}
 use borrow.Author.Tests.{ltb-true, eqb-true}
 use Rattle.chart_fields.specs.Objects.{objectAt}
 use Rattle.chart_opening.proofs.Header.{holds}
 use Rattle.chart_opening.specs.Accepted.{opens, enough, opens-by, is-met, head-accepts, tail-accepts, first-accepts, then-accepts, header-ok, settings-ok}
-use Rattle.chart_opening.specs.Header.{layoutOf, settingsOf, settingsOk}
+use Rattle.chart_opening.specs.Header.{layoutOf}
 use Rattle.chart_opening.specs.Conditions.{firstOf, bodyOf, Opens, openConditions, openVerdict}
 use Rattle.chart_opening.specs.declared.Refusal.the-variants.{Object, Place}
 use Rattle.chart_opening.specs.declared.Verdict.the-variants.{Accepted}

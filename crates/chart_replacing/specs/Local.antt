@@ -19,9 +19,9 @@ use Rattle.chart_opening.specs.declared.Verdict.{Verdict}
 unfoldable pub fallsHere : List ℕ → Layout → ℕ → Fields → Bool
 fallsHere s lay place f = ltb 0 place && Ieee.lt (f .start) (fieldsOf s lay (place - 1) .start)
 
--- condition 5 at the place after: that object starts before the new one
+-- condition 5 at the place after: the object that the old chart has at place next, which then stands there, starts before the new one
 unfoldable pub fallsNext : List ℕ → Layout → ℕ → Fields → Bool
-fallsNext s lay place f = ltb (place + 1) (lay .n) && Ieee.lt (fieldsOf s lay (place + 1) .start) (f .start)
+fallsNext s lay next f = ltb next (lay .n) && Ieee.lt (fieldsOf s lay next .start) (f .start)
 
 -- the start at place j of the new chart
 unfoldable pub newStart : List ℕ → Layout → ℕ → Fields → ℕ → Float
@@ -31,11 +31,15 @@ newStart s lay place f j = cond (eqb j place) (f .start) (fieldsOf s lay j .star
 unfoldable pub newTooLong : List ℕ → Layout → Float → ℕ → Fields → Bool
 newTooLong s lay clock place f = leb 2 (lay .n) && farApart (newStart s lay place f (lay .n - 1)) (newStart s lay place f 1) clock
 
-unfoldable pub newConditions : List ℕ → Layout → Float → ℕ → Fields → List Verdict
-newConditions s lay clock place f =
+-- what an object of these fields at a place, with the old one of place next behind it, can have changed; 6 is given
+unfoldable pub objectConditions : List ℕ → Layout → ℕ → ℕ → Fields → Bool → List Verdict
+objectConditions s lay place next f long =
     refuseIf (not (fieldsOk f)) (Object place)
     ∷ refuseIf (wrongEntries s lay f) (Entries place)
     ∷ refuseIf (fallsHere s lay place f) (Order place)
-    ∷ refuseIf (fallsNext s lay place f) (Order (place + 1))
-    ∷ refuseIf (newTooLong s lay clock place f) Length
+    ∷ refuseIf (fallsNext s lay next f) (Order (place + 1))
+    ∷ refuseIf long Length
     ∷ []
+
+abbrev pub newConditions : List ℕ → Layout → Float → ℕ → Fields → List Verdict
+newConditions s lay clock place f = objectConditions s lay place (place + 1) f (newTooLong s lay clock place f)

@@ -1,7 +1,7 @@
 -- The chart with one object replaced: that object is the lent one (`place-put`, `here`), every other object (`place-kept`, `elsewhere`), the header with its settings
 -- (`header-kept`, `layout`, `settings`, `header`) and what follows the objects (`rest-kept`, `entries`) are as they were. Assumes nothing.
-use Prim.Native.Nat.{ℕ, suc, _+_, _*_, _≤_, _<_}
-use mathlib.Core.Path.{_≡_, sym, ap, _∙_}
+use Prim.Native.Nat.{ℕ, _+_, _*_, _≤_, _<_}
+use mathlib.Core.Path.{_≡_}
 use mathlib.Core.List.{List}
 use lib.ListN.{length, take, drop}
 use native.Mathlib.Decide.{decLt}

@@ -6,7 +6,7 @@ ghost use lib.ListN.{length};
 ghost use Rattle.num_tables.specs.Parts as parts;
 ghost use Rattle.chart_fields.specs.Objects.{Holds};
 ghost use Rattle.chart_opening.specs.Conditions.{firstOf, ifAccepted, Opens};
-ghost use Rattle.chart_replacing.specs.Local.{fallsHere, fallsNext, newStart, newTooLong, newConditions};
+ghost use Rattle.chart_replacing.specs.Local.{fallsHere, fallsNext, objectConditions, newStart, newTooLong, newConditions};
 ghost use Rattle.chart_replacing.specs.Replace.{putObject, placeConditions, replaceVerdict};
 ghost use Rattle.chart_replacing.specs.Accepted.{Taken};
 use chart_fields::Fields;
@@ -27,8 +27,8 @@ pub fn put(d: &mut [u8], at: usize, s: &[u8])
 }
 
 // Condition 5 at the new object's place: it starts before its predecessor.
-fn falls_here(chart: &[u8], lay: Layout, place: usize, f: Fields) -> bool
-    requires { ⌜ Holds (now chart) lay × (place < lay .n) ⌝ }
+pub fn falls_here(chart: &[u8], lay: Layout, place: usize, f: Fields) -> bool
+    requires { ⌜ Holds (now chart) lay × (place ≤ lay .n) ⌝ }
     ensures { λ r. ⌜ r ≡ fallsHere (now (chart .entry)) lay place f ⌝ }
 {
     if place == 0 {
@@ -38,18 +38,48 @@ fn falls_here(chart: &[u8], lay: Layout, place: usize, f: Fields) -> bool
     f.start < before.start
 }
 
-// Condition 5 at the place after: that object starts before the new one.
-fn falls_next(chart: &[u8], lay: Layout, place: usize, f: Fields) -> bool
-    requires { ⌜ Holds (now chart) lay × (place < lay .n) ⌝ }
-    ensures { λ r. ⌜ r ≡ fallsNext (now (chart .entry)) lay place f ⌝ }
+// Condition 5 at the place after: the object that then stands there, at place next until now, starts before the new one.
+fn falls_next(chart: &[u8], lay: Layout, next: usize, f: Fields) -> bool
+    requires { ⌜ Holds (now chart) lay ⌝ }
+    ensures { λ r. ⌜ r ≡ fallsNext (now (chart .entry)) lay next f ⌝ }
 {
     let n = lay.n;
-    let next = place + 1;
     if n <= next {
         return false;
     }
     let after = chart_fields::fields_of(chart, lay, next);
     after.start < f.start
+}
+
+// Conditions 3 to 6 for the chart with an object of these fields at a place and the old one of place next behind it: only what that object can have
+// changed is tested. The answer of 6 is given.
+pub fn check_object(
+    chart: &[u8],
+    lay: Layout,
+    place: usize,
+    next: usize,
+    f: Fields,
+    long: bool,
+) -> Verdict
+    requires { ⌜ Holds (now chart) lay × (place ≤ lay .n) ⌝ }
+    ensures { λ r. ⌜ r ≡ firstOf (objectConditions (now (chart .entry)) lay place next f long) ⌝ }
+{
+    if !chart_fields::fields_ok(f) {
+        return Verdict::Refused(Refusal::Object(place));
+    }
+    if chart_entries::wrong_entries(chart, lay, f) {
+        return Verdict::Refused(Refusal::Entries(place));
+    }
+    if falls_here(chart, lay, place, f) {
+        return Verdict::Refused(Refusal::Order(place));
+    }
+    if falls_next(chart, lay, next, f) {
+        return Verdict::Refused(Refusal::Order(place + 1));
+    }
+    if long {
+        return Verdict::Refused(Refusal::Length);
+    }
+    Verdict::Accepted
 }
 
 // The start at place j of the new chart.
@@ -78,27 +108,13 @@ fn new_too_long(chart: &[u8], lay: Layout, clock: f64, place: usize, f: Fields) 
     chart_opening::far_apart(last, first, clock)
 }
 
-// Conditions 3 to 6 for the chart with an object of these fields at a place: only what that object can have changed is tested.
+// Conditions 3 to 6 for the chart with an object of these fields at a place.
 fn check_new(chart: &[u8], lay: Layout, clock: f64, place: usize, f: Fields) -> Verdict
     requires { ⌜ Holds (now chart) lay × (place < lay .n) ⌝ }
     ensures { λ r. ⌜ r ≡ firstOf (newConditions (now (chart .entry)) lay clock place f) ⌝ }
 {
-    if !chart_fields::fields_ok(f) {
-        return Verdict::Refused(Refusal::Object(place));
-    }
-    if chart_entries::wrong_entries(chart, lay, f) {
-        return Verdict::Refused(Refusal::Entries(place));
-    }
-    if falls_here(chart, lay, place, f) {
-        return Verdict::Refused(Refusal::Order(place));
-    }
-    if falls_next(chart, lay, place, f) {
-        return Verdict::Refused(Refusal::Order(place + 1));
-    }
-    if new_too_long(chart, lay, clock, place, f) {
-        return Verdict::Refused(Refusal::Length);
-    }
-    Verdict::Accepted
+    let long = new_too_long(chart, lay, clock, place, f);
+    check_object(chart, lay, place, place + 1, f, long)
 }
 
 // Condition 8, then 3 to 6 for the chart as it would become; the chart as it is meets none of 1 to 6.

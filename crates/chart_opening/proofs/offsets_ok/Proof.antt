@@ -22,9 +22,19 @@ mul-result c = search needs
 add-result : tie.Need-add-result
 add-result c = search needs
 
+count-at-requires-5 : tie.Need-count-at-requires-5
+count-at-requires-5 c κs = search needs
+
 returns : tie.Need-returns
 unfolding offsetsOk
-returns c = simp (c .before .before .before .before .before .before .before .count-at .ensures, c .before .before .before .before .before .before .count-at2 .ensures, c .before .before .before .before .count-at3 .ensures, c .before .before .count-at4 .ensures)
+returns c =
+    simp (
+      c .before .before .before .before .before .before .before .before .count-at .ensures,
+      c .before .before .before .before .before .before .before .count-at2 .ensures,
+      c .before .before .before .before .before .count-at3 .ensures,
+      c .before .before .before .count-at4 .ensures,
+      c .count-at5 .ensures,
+    )
 
 pub offsets-ok-spec : {M : Type 1} → statement M
 offsets-ok-spec =
@@ -36,4 +46,5 @@ offsets-ok-spec =
     count-at-requires-4
     mul-result
     add-result
+    count-at-requires-5
     returns)

@@ -1,5 +1,5 @@
 -- `chart_replacing::replace` meets its contract. Assumes nothing.
-use mathlib.Core.Path.{sym, ap, _∙_}
+use mathlib.Core.Path.{sym, _∙_}
 use Rattle.chart_opening.specs.Conditions.{ifAccepted}
 use Rattle.chart_replacing.specs.Accepted.{taken}
 use borrow.Author.Needs.{needs}
