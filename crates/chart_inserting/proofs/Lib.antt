@@ -1,0 +1,5 @@
+pub mod Shared
+pub mod Local
+pub mod Without
+pub mod Checked
+pub mod Written
