@@ -2,10 +2,11 @@
 -- own tables is admissible. Assumes nothing.
 use mathlib.Core.Path.{_≡_, refl, sym, ap, _∙_, subst, subst⁻¹}
 use mathlib.Core.List.{List, [], _∷_, map}
-use Prim.Native.Nat.{ℕ, _≤_}
+use Prim.Native.Nat.{ℕ, _-_, _≤_}
 use lib.Ieee.{Float}
-use lib.ListN.{length}
-use Rattle.chart_opening.specs.Header.{settingsOf}
+use lib.ListN.{length, drop}
+use native.Mathlib.Omega.{arith}
+use Rattle.chart_opening.specs.Header.{settingsOf, chartLength}
 use Rattle.chart_opening.specs.Conditions.{ifAccepted}
 use Rattle.chart_opening.specs.declared.Refusal.{Refusal}
 use Rattle.chart_opening.specs.declared.Verdict.{Verdict}
@@ -14,13 +15,14 @@ use Rattle.chart_replacing.specs.Replace.{putObject}
 use Rattle.calls.specs.Simulation.{Throughout}
 use Rattle.calls.specs.Tables.{contents, tableAfter}
 use Rattle.calls.specs.Afresh.{Figure, count}
-use Rattle.calls.specs.Conditions.{Scratch, Lengths, lengths, Operation, replace, readRecord, readValues, figure, refusal}
-use Rattle.calls.specs.Calls.{State, Outcome, refuse, opened, openAnswer, openLeaves, edited, execute, verdictIn, outcome, zeros, cleared, scratchAfter, lent, stateAfter, perform}
-use Rattle.calls.specs.Statement.{OwnTables, Outside, Admissible, ownCall}
-use Rattle.calls.proofs.Refusals.{opening-met, accepted-replace}
-use Rattle.calls.proofs.Replacing.{count-same}
+use Rattle.calls.specs.Conditions.{Scratch, Lengths, lengths, Operation, replace, insert, remove, readRecord, readValues, figure, refusal}
+use Rattle.calls.specs.Calls.{State, Outcome, refuse, opened, openAnswer, openLeaves, edited, putIn, takenOut, execute, verdictIn, outcome, zeros, cleared, scratchAfter, lent, stateAfter, perform}
+use Rattle.calls.specs.Statement.{OwnTables, Outside, Admissible, countAfter, ownCall}
+use Rattle.calls.proofs.Refusals.{opening-met, accepted-replace, accepted-insert, accepted-remove}
+use Rattle.calls.proofs.Replacing.{layout-same, count-same, put-keeps}
+use Rattle.calls.proofs.Moving.{inserted-more, inserted-keeps, removed-more, removed-keeps}
 use Rattle.calls.proofs.Locality.{open-outside}
-use Rattle.calls.proofs.Steps.{outside-refl, edited-outside}
+use Rattle.calls.proofs.Steps.{outside-refl, edited-outside, put-in-outside, taken-out-outside}
 
 -- ---- With the opening's tables
 
@@ -31,6 +33,8 @@ steps a st = refl
 own-tables : (a : Operation) → OwnTables a (ownCall a .records) (ownCall a .values)
 unfolding OwnTables
 own-tables (replace k o) = (tt, tt)
+own-tables (insert k o) = (tt, tt)
+own-tables (remove k) = (tt, tt)
 own-tables (readRecord k) = tt
 own-tables (readValues k) = tt
 own-tables (figure f l) = tt
@@ -113,19 +117,42 @@ unfolding execute verdictIn
 writes (replace k o) st =
     by-cases (replace k o) st (Written st) (outside-refl (count (st .chart)) st) (λ e.
     let (a, r) = accepted-replace k o (length (st .records)) (length (st .values)) (st .chart) e in edited-outside k o st a r)
+writes (insert k o) st =
+    by-cases (insert k o) st (Written st) (outside-refl (count (st .chart)) st) (λ e.
+    let (a, r) = accepted-insert k o (length (st .records)) (length (st .values)) (st .chart) e in put-in-outside k o st a r)
+writes (remove k) st =
+    by-cases (remove k) st (Written st) (outside-refl (count (st .chart)) st) (λ e.
+    let (a, r) = accepted-remove k (length (st .records)) (length (st .values)) (st .chart) e in taken-out-outside k st a r)
 writes (readRecord k) st = subst⁻¹ (Written st) (record-reads k st) (outside-refl (count (st .chart)) st)
 writes (readValues k) st = subst⁻¹ (Written st) (values-reads k st) (outside-refl (count (st .chart)) st)
 writes (figure f l) st = subst⁻¹ (Written st) (figure-reads f l st) (outside-refl (count (st .chart)) st)
 
--- N stays
-pub counts : (a : Operation) (st : State) → count (outcome a st .leaves .chart) ≡ count (st .chart)
-unfolding execute verdictIn edited
-counts (replace k o) st =
-    by-cases (replace k o) st (λ x. count (x .chart) ≡ count (st .chart)) refl (λ e.
-    count-same k o (st .chart) (accepted-replace k o (length (st .records)) (length (st .values)) (st .chart) e .0))
-counts (readRecord k) st = ap (λ (x : State). count (x .chart)) (record-reads k st)
-counts (readValues k) st = ap (λ (x : State). count (x .chart)) (values-reads k st)
-counts (figure f l) st = ap (λ (x : State). count (x .chart)) (figure-reads f l st)
+-- N after it
+pub counts : (a : Operation) (st : State) → verdictIn a st ≡ Accepted → count (execute a st .leaves .chart) ≡ countAfter a (count (st .chart))
+unfolding execute verdictIn edited putIn takenOut countAfter
+counts (replace k o) st e = count-same k o (st .chart) (accepted-replace k o (length (st .records)) (length (st .values)) (st .chart) e .0)
+counts (insert k o) st e = inserted-more (st .chart) k o (accepted-insert k o (length (st .records)) (length (st .values)) (st .chart) e .0) .counts
+counts (remove k) st e =
+    let c = removed-more (st .chart) k (accepted-remove k (length (st .records)) (length (st .values)) (st .chart) e .0) .counts in omega (arith, c)
+counts (readRecord k) st e = refl
+counts (readValues k) st e = refl
+counts (figure f l) st e = refl
+
+-- the buffer's length, and the bytes past the chart's
+abbrev Keeps : State → State → Type 0
+Keeps st x = (length (x .chart) ≡ length (st .chart)) × (drop (chartLength (x .chart)) (x .chart) ≡ drop (chartLength (x .chart)) (st .chart))
+
+pub keeps : (a : Operation) (st : State) → Keeps st (outcome a st .leaves)
+unfolding execute verdictIn edited putIn takenOut
+keeps (replace k o) st =
+    by-cases (replace k o) st (Keeps st) (refl, refl) (λ e. put-keeps k o (st .chart) (accepted-replace k o (length (st .records)) (length (st .values)) (st .chart) e .0))
+keeps (insert k o) st =
+    by-cases (insert k o) st (Keeps st) (refl, refl) (λ e. inserted-keeps (st .chart) k o (accepted-insert k o (length (st .records)) (length (st .values)) (st .chart) e .0))
+keeps (remove k) st =
+    by-cases (remove k) st (Keeps st) (refl, refl) (λ e. removed-keeps (st .chart) k (accepted-remove k (length (st .records)) (length (st .values)) (st .chart) e .0))
+keeps (readRecord k) st = subst⁻¹ (Keeps st) (record-reads k st) (refl, refl)
+keeps (readValues k) st = subst⁻¹ (Keeps st) (values-reads k st) (refl, refl)
+keeps (figure f l) st = subst⁻¹ (Keeps st) (figure-reads f l st) (refl, refl)
 
 -- ---- Opening
 

@@ -17,7 +17,7 @@ use Rattle.skills.specs.Chart.{deltaAt}
 use Rattle.calls.specs.Tables.{recordWidth, valueWidth, Borrowed, contents, tableAfter}
 use Rattle.calls.specs.Afresh.{count, freshRow, valuesFrom, strainsFrom}
 use Rattle.calls.specs.Conditions.{replace}
-use Rattle.calls.specs.Calls.{recordsStart, recordsMade, valuesStart, valuesMade, editRecords, editValues, State, edited, execute, verdictIn, Call, lent, stateAfter, perform}
+use Rattle.calls.specs.Calls.{replacedRecords, replacedValues, recordsStart, recordsMade, valuesStart, valuesMade, editRecords, editValues, State, edited, execute, verdictIn, Call, lent, stateAfter, perform}
 use Rattle.calls.specs.Statement.{Frame, FrameAfresh}
 use Rattle.calls.proofs.Refusals.{Roomy, accepted-replace}
 use Rattle.calls.proofs.Replacing.{count-same, settings-same, object-same}
@@ -51,10 +51,10 @@ module _ (k : ℕ) (o : List ℕ) (t u : Borrowed) (st : State) (a : Taken (st .
   same-n = count-same k o (st .chart) a
 
   abbrev rs' : List Float
-  rs' = editRecords (settingsOf b') b' k (contents t (st .records))
+  rs' = editRecords (settingsOf b') b' k (replacedRecords k) (contents t (st .records))
 
   abbrev vs' : List Float
-  vs' = editValues (settingsOf b') b' k rs' (contents u (st .values))
+  vs' = editValues (settingsOf b') b' k (replacedValues k) rs' (contents u (st .values))
 
   record-kept : (j : ℕ) → (k ≤ j → j ≤ k + 2 → ⊥) → row recordWidth (tableAfter t rs' (st .records)) j ≡ row recordWidth (st .records) j
   unfolding editRecords recordsStart recordsMade

@@ -1,38 +1,22 @@
 -- A call that borrows the front of the opening's table writes what it would write to the whole of it, and reads the same there. Assumes nothing.
 use mathlib.Core.Path.{_≡_, refl, sym, ap, _∙_}
-use mathlib.Core.List.{List, [], _∷_, _++_, append-assoc}
-use Prim.Native.Nat.{ℕ, zero, suc, _+_, _*_, _≤_, _<_, min}
-use native.Mathlib.Nat.{suc-add, add-suc, mul-suc, mul-le-mul-left}
+use mathlib.Core.List.{List, _++_}
+use Prim.Native.Nat.{ℕ, zero, suc, _+_, _-_, _*_, _≤_, _<_, min}
 use native.Mathlib.Omega.{arith}
 use lib.Ieee.{Float}
-use lib.ListN.{length, take, drop, length-take, length-drop, take-append-drop}
-use lib.Seq.{take-append-le, drop-append-le, take-take}
+use lib.ListN.{length, take, drop, length-take, take-append-drop}
+use lib.Seq.{take-take, drop-drop}
 use Rattle.num_tables.specs.Parts.{part, put, row, fill}
-use Rattle.num_tables.specs.Rows.{take-drop, length-put, row-fill-out}
+use Rattle.num_tables.specs.Rows.{take-drop, part-append, fill-append, row-fill-out}
 use Rattle.calls.specs.Tables.{Borrowed, own, front, foreign, IsOwn, contents, lengthOf, tableAfter}
 
 module _ {A : Type 0} where
-  put-append : (at : ℕ) (vs l r : List A) → at + length vs ≤ length l → put at vs l ++ r ≡ put at vs (l ++ r)
-  unfolding put
-  put-append at vs l r h =
-      append-assoc (take at l) (vs ++ drop (at + length vs) l) r
-      ∙ (ap (λ (x : List A). take at l ++ x) (append-assoc vs (drop (at + length vs) l) r)
-      ∙ (λ t. sym (take-append-le at l r (omega arith)) t ++ (vs ++ sym (drop-append-le (at + length vs) l r h) t)))
-
-  module _ (w : ℕ) (f : ℕ → List A) (wide : (j : ℕ) → length (f j) ≡ w) where
-    next-fits : (lo n l : ℕ) → w * (lo + suc n) ≤ l → w * lo + w ≤ l
-    next-fits lo n l h =
-        let m : w * suc lo ≤ w * (lo + suc n) = mul-le-mul-left w (omega arith) in
-        let e : w * suc lo ≡ w * lo + w = mul-suc w lo in
-        omega arith
-
-    fill-append : (lo n : ℕ) (l r : List A) → (0 < n → w * (lo + n) ≤ length l) → fill w f lo n l ++ r ≡ fill w f lo n (l ++ r)
-    unfolding fill
-    fill-append lo zero l r h = refl
-    fill-append lo (suc n) l r h =
-        let k : w * lo + length (f lo) ≤ length l = rw wide (next-fits lo n (length l) (h (omega arith))) in
-        fill-append (suc lo) n (put (w * lo) (f lo) l) r (λ z. rw (length-put (w * lo) (f lo) l k, suc-add, ← (add-suc lo n)) (h (omega arith)))
-        ∙ ap (fill w f (suc lo) n) (put-append (w * lo) (f lo) l r k)
+  -- lists that are the same behind a place are so behind any later one
+  pub later-drop : (i j : ℕ) (x y : List A) → i ≤ j → drop i x ≡ drop i y → drop j x ≡ drop j y
+  later-drop i j x y h e =
+      let p : j ≡ i + (j - i) = omega arith in
+      ap (λ (n : ℕ). drop n x) p
+      ∙ (sym (drop-drop (j - i) i x) ∙ (ap (drop (j - i)) e ∙ (drop-drop (j - i) i y ∙ ap (λ (n : ℕ). drop n y) (sym p))))
 
   pub fill-same : (w : ℕ) (f g : ℕ → List A) (lo n : ℕ) (t : List A) → ((j : ℕ) → lo ≤ j → j < lo + n → f j ≡ g j) → fill w f lo n t ≡ fill w g lo n t
   unfolding fill
@@ -46,9 +30,8 @@ module _ {A : Type 0} where
   row-take w m j t h = take-drop (w * j) w (take m t) ∙ (ap (drop (w * j)) (take-take (w * j + w) m t h) ∙ sym (take-drop (w * j) w t))
 
   row-append : (w j : ℕ) (x r : List A) → w * j + w ≤ length x → row w (x ++ r) j ≡ row w x j
-  unfolding row part
-  row-append w j x r h =
-      ap (take w) (drop-append-le (w * j) x r (omega arith)) ∙ take-append-le w (drop (w * j) x) r (omega (arith, length-drop (w * j) x))
+  unfolding row
+  row-append w j x r h = part-append (w * j) w x r h
 
 -- ---- What a call is lent of a table, and what it leaves of it
 
@@ -83,12 +66,17 @@ row-left own o w j y x h = refl
 row-left (front m) o w j y x h = row-append w j y (drop m x) h
 row-left (foreign z) o w j y x h = absurd o
 
+-- what is done to the lent part is done to the whole, where it leaves alone what stands behind that part
+pub after-whole : (t : Borrowed) → IsOwn t → (g : List Float → List Float) (x : List Float)
+    → ((r : List Float) → g (contents t x) ++ r ≡ g (contents t x ++ r)) → tableAfter t (g (contents t x)) x ≡ g x
+unfolding tableAfter contents
+after-whole own o g x h = refl
+after-whole (front m) o g x h = h (drop m x) ∙ ap g (take-append-drop m x)
+after-whole (foreign y) o g x h = absurd o
+
 pub after-fill : (t : Borrowed) → IsOwn t → (w : ℕ) (f : ℕ → List Float) → ((j : ℕ) → length (f j) ≡ w) → (lo n : ℕ) (x : List Float)
     → (0 < n → w * (lo + n) ≤ length (contents t x)) → tableAfter t (fill w f lo n (contents t x)) x ≡ fill w f lo n x
-unfolding tableAfter contents
-after-fill own o w f wide lo n x h = refl
-after-fill (front m) o w f wide lo n x h = fill-append w f wide lo n (take m x) (drop m x) h ∙ ap (fill w f lo n) (take-append-drop m x)
-after-fill (foreign y) o w f wide lo n x h = absurd o
+after-fill t o w f wide lo n x h = after-whole t o (fill w f lo n) x (λ r. fill-append w f wide lo n (contents t x) r h)
 
 -- a row that is not made anew
 module _ (w : ℕ) (f : ℕ → List Float) (wide : (j : ℕ) → length (f j) ≡ w) (lo n : ℕ) (x : List Float) (j : ℕ) (out : lo ≤ j → j < lo + n → ⊥) where

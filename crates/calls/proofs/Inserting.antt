@@ -31,7 +31,7 @@ module _
     later-at : (i i' : ℕ) → i' ≡ suc i → k ≤ i → i < count b → object b' i' ≡ object b i
     later-at i i' e h q = ap (object b') e ∙ later i h q
 
-    record-moved : (j : ℕ) → k + 2 ≤ j → 3 ≤ j → j < count b → freshRecord s b' (suc j) ≡ freshRecord s b j
+    pub record-moved : (j : ℕ) → k + 2 ≤ j → 3 ≤ j → j < count b → freshRecord s b' (suc j) ≡ freshRecord s b j
     unfolding chartRecord
     record-moved j h t q =
         let e : min (suc j) 3 ≡ min j 3 = omega arith in
@@ -52,7 +52,7 @@ module _
     reach-moved : (j : ℕ) → j < count b → reachOf (count b') (suc j) ≡ suc (reachOf (count b) j)
     reach-moved j q = omega arith
 
-    value-moved : (j : ℕ) → k + 33 ≤ j → j < count b → freshValues s b' (suc j) ≡ freshValues s b j
+    pub value-moved : (j : ℕ) → k + 33 ≤ j → j < count b → freshValues s b' (suc j) ≡ freshValues s b j
     unfolding freshValues
     value-moved j h q =
         let r : (j ≤ reachOf (count b) j) × (reachOf (count b) j ≤ j + 1) × (reachOf (count b) j < count b) = reach-at b j q in
@@ -66,10 +66,10 @@ module _
     reach-kept : (j : ℕ) → j + 1 < k → reachOf (count b) j ≡ reachOf (count b') j
     reach-kept j h = omega arith
 
-    record-same : (j : ℕ) → j < k → freshRow s b j ≡ freshRow s b' j
+    pub record-same : (j : ℕ) → j < k → freshRow s b j ≡ freshRow s b' j
     record-same j h = row-local s b b' j (λ i y z. sym (before i (omega arith)))
 
-    value-same : (j : ℕ) → 1 ≤ j → j + 1 < k → freshValues s b j ≡ freshValues s b' j
+    pub value-same : (j : ℕ) → 1 ≤ j → j + 1 < k → freshValues s b j ≡ freshValues s b' j
     value-same j p h =
         value-local s b b' j p (omega arith) (reach-kept j h) (λ i y z. sym (before i (omega (arith, reach-at b j (omega arith)))))
 

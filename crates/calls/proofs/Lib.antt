@@ -3,11 +3,13 @@ pub mod Replacing
 pub mod Simulating
 pub mod Locality
 pub mod Front
+pub mod Moving
+pub mod Inserting
 pub mod Steps
 pub mod Keeping
 pub mod Frames
+pub mod Moves
 pub mod Places
 pub mod Limits
 pub mod Alone
 pub mod Theorems
-pub mod Inserting

@@ -181,96 +181,106 @@ module _ (s : Settings) (b : List ℕ) (rs vs : List Float) (rh : recordWidth * 
     later-values = drop-fill valueWidth (valuesFrom s b (openRecords s b rs)) (value-width s b (openRecords s b rs)) openStart (openMade (count b)) (count b) vs (λ z. omega arith) (λ z. omega arith);
   }
 
--- ---- Replacing: the chart b' has the objects of b but for place k, and tables that were fresh for b are brought up to date.
--- The settings s are those of any player.
+-- ---- An edit at place k makes records from k to before e and values from k - 1 to before f anew for a chart b of any objects. The settings s are those of any player.
 
 module _
-    (s : Settings) (k : ℕ) (b b' : List ℕ) (rs vs : List Float)
+    (s : Settings) (k e f : ℕ) (b : List ℕ) (rs vs : List Float)
     (rh : recordWidth * count b ≤ length rs) (vh : valueWidth * count b ≤ length vs)
-    (below : k < count b) (counts : count b' ≡ count b)
-    (same : (i : ℕ) → (i ≡ k → ⊥) → object b' i ≡ object b i)
   where
-    room₁ : 0 < recordsMade k (count b') → recordWidth * (recordsStart k + recordsMade k (count b')) ≤ length rs
+    records-room : 0 < recordsMade k e (count b) → recordWidth * (recordsStart k + recordsMade k e (count b)) ≤ length rs
     unfolding recordsMade recordsStart
-    room₁ z = omega arith
+    records-room z = omega arith
 
-    room₂ : 0 < valuesMade k (count b') → valueWidth * (valuesStart k + valuesMade k (count b')) ≤ length vs
+    values-room : 0 < valuesMade k f (count b) → valueWidth * (valuesStart k + valuesMade k f (count b)) ≤ length vs
     unfolding valuesMade valuesStart
-    room₂ z = omega arith
+    values-room z = omega arith
 
-    pub edit-records-length : length (editRecords s b' k rs) ≡ length rs
+    pub edit-records-length : length (editRecords s b k e rs) ≡ length rs
     unfolding editRecords recordsMade recordsStart
-    edit-records-length = length-fill recordWidth (freshRow s b') (record-width s b') (recordsStart k) (recordsMade k (count b')) rs room₁
+    edit-records-length = length-fill recordWidth (freshRow s b) (record-width s b) (recordsStart k) (recordsMade k e (count b)) rs records-room
 
-    pub edit-values-length : length (editValues s b' k (editRecords s b' k rs) vs) ≡ length vs
+    pub edit-values-length : length (editValues s b k f (editRecords s b k e rs) vs) ≡ length vs
     unfolding editValues valuesMade valuesStart
-    edit-values-length = length-fill valueWidth (valuesFrom s b' (editRecords s b' k rs)) (value-width s b' (editRecords s b' k rs)) (valuesStart k) (valuesMade k (count b')) vs room₂
+    edit-values-length = length-fill valueWidth (valuesFrom s b (editRecords s b k e rs)) (value-width s b (editRecords s b k e rs)) (valuesStart k) (valuesMade k f (count b)) vs values-room
 
-    -- rows that a replacement leaves alone
-    pub edit-record-kept : (j : ℕ) → (k ≤ j → j ≤ k + 2 → ⊥) → row recordWidth (editRecords s b' k rs) j ≡ row recordWidth rs j
+    -- rows that it leaves alone
+    pub edit-record-kept : (j : ℕ) → (k ≤ j → j < e → ⊥) → row recordWidth (editRecords s b k e rs) j ≡ row recordWidth rs j
     unfolding editRecords recordsMade recordsStart
-    edit-record-kept j o = row-fill-out recordWidth (freshRow s b') (record-width s b') j (recordsStart k) (recordsMade k (count b')) rs room₁ (λ x y. o (omega arith) (omega arith))
+    edit-record-kept j o = row-fill-out recordWidth (freshRow s b) (record-width s b) j (recordsStart k) (recordsMade k e (count b)) rs records-room (λ x y. o (omega arith) (omega arith))
 
-    pub edit-value-kept : (j : ℕ) → (k ≤ j + 1 → j ≤ k + 33 → ⊥) → row valueWidth (editValues s b' k (editRecords s b' k rs) vs) j ≡ row valueWidth vs j
+    pub edit-value-kept : (j : ℕ) → (k ≤ j + 1 → j < f → ⊥) → row valueWidth (editValues s b k f (editRecords s b k e rs) vs) j ≡ row valueWidth vs j
     unfolding editValues valuesMade valuesStart
     edit-value-kept j o =
-        row-fill-out valueWidth (valuesFrom s b' (editRecords s b' k rs)) (value-width s b' (editRecords s b' k rs)) j (valuesStart k) (valuesMade k (count b')) vs room₂
+        row-fill-out valueWidth (valuesFrom s b (editRecords s b k e rs)) (value-width s b (editRecords s b k e rs)) j (valuesStart k) (valuesMade k f (count b)) vs values-room
         (λ x y. o (omega arith) (omega arith))
 
-    pub edit-outside : Outside (count b) (state b rs vs) (state b' (editRecords s b' k rs) (editValues s b' k (editRecords s b' k rs) vs))
+    pub edit-outside : (c : List ℕ) → Outside (count b) (state c rs vs) (state b (editRecords s b k e rs) (editValues s b k f (editRecords s b k e rs) vs))
     unfolding editRecords editValues recordsMade recordsStart valuesMade valuesStart
-    edit-outside = record {
-      first-record = take-fill recordWidth (freshRow s b') (record-width s b') 1 (recordsStart k) (recordsMade k (count b')) rs (omega arith) room₁;
-      later-records = drop-fill recordWidth (freshRow s b') (record-width s b') (recordsStart k) (recordsMade k (count b')) (count b) rs (λ z. omega arith) room₁;
-      first-values = take-fill valueWidth (valuesFrom s b' (editRecords s b' k rs)) (value-width s b' (editRecords s b' k rs)) 1 (valuesStart k) (valuesMade k (count b')) vs (omega arith) room₂;
-      later-values = drop-fill valueWidth (valuesFrom s b' (editRecords s b' k rs)) (value-width s b' (editRecords s b' k rs)) (valuesStart k) (valuesMade k (count b')) (count b) vs (λ z. omega arith) room₂;
+    edit-outside c = record {
+      first-record = take-fill recordWidth (freshRow s b) (record-width s b) 1 (recordsStart k) (recordsMade k e (count b)) rs (omega arith) records-room;
+      later-records = drop-fill recordWidth (freshRow s b) (record-width s b) (recordsStart k) (recordsMade k e (count b)) (count b) rs (λ z. omega arith) records-room;
+      first-values = take-fill valueWidth (valuesFrom s b (editRecords s b k e rs)) (value-width s b (editRecords s b k e rs)) 1 (valuesStart k) (valuesMade k f (count b)) vs (omega arith) values-room;
+      later-values = drop-fill valueWidth (valuesFrom s b (editRecords s b k e rs)) (value-width s b (editRecords s b k e rs)) (valuesStart k) (valuesMade k f (count b)) (count b) vs (λ z. omega arith) values-room;
     }
 
     -- rows that it makes anew
-    pub edit-record-made : (j : ℕ) → 1 ≤ j → j < count b' → k ≤ j → j ≤ k + 2 → row recordWidth (editRecords s b' k rs) j ≡ freshRow s b' j
+    pub edit-record-made : (j : ℕ) → 1 ≤ j → j < count b → k ≤ j → j < e → row recordWidth (editRecords s b k e rs) j ≡ freshRow s b j
     unfolding editRecords recordsMade recordsStart
-    edit-record-made j p q x y = row-fill-in recordWidth (freshRow s b') (record-width s b') j (recordsStart k) (recordsMade k (count b')) rs room₁ (omega arith) (omega arith)
+    edit-record-made j p q x y = row-fill-in recordWidth (freshRow s b) (record-width s b) j (recordsStart k) (recordsMade k e (count b)) rs records-room (omega arith) (omega arith)
 
-    pub edit-value-made : (j : ℕ) → 1 ≤ j → j < count b' → k ≤ j + 1 → j ≤ k + 33
-        → row valueWidth (editValues s b' k (editRecords s b' k rs) vs) j ≡ valuesFrom s b' (editRecords s b' k rs) j
+    pub edit-value-made : (j : ℕ) → 1 ≤ j → j < count b → k ≤ j + 1 → j < f
+        → row valueWidth (editValues s b k f (editRecords s b k e rs) vs) j ≡ valuesFrom s b (editRecords s b k e rs) j
     unfolding editValues valuesMade valuesStart
     edit-value-made j p q x y =
-        row-fill-in valueWidth (valuesFrom s b' (editRecords s b' k rs)) (value-width s b' (editRecords s b' k rs)) j (valuesStart k) (valuesMade k (count b')) vs room₂ (omega arith) (omega arith)
+        row-fill-in valueWidth (valuesFrom s b (editRecords s b k e rs)) (value-width s b (editRecords s b k e rs)) j (valuesStart k) (valuesMade k f (count b)) vs values-room (omega arith) (omega arith)
+
+-- ---- Replacing: the chart b' has the objects of b but for place k, and tables that were fresh for b are brought up to date
+
+module _
+    (s : Settings) (k : ℕ) (b b' : List ℕ) (rs vs : List Float)
+    (rh : recordWidth * count b' ≤ length rs) (vh : valueWidth * count b' ≤ length vs)
+    (counts : count b' ≡ count b)
+    (same : (i : ℕ) → (i ≡ k → ⊥) → object b' i ≡ object b i)
+    (f : Fresh s (state b rs vs))
+  where
+    abbrev rs' : List Float
+    rs' = editRecords s b' k (k + 3) rs
+
+    abbrev vs' : List Float
+    vs' = editValues s b' k (k + 34) rs' vs
 
     reach-same : (j : ℕ) → reachOf (count b) j ≡ reachOf (count b') j
     reach-same j = omega arith
 
-    module _ (f : Fresh s (state b rs vs)) where
-      pub edit-record : (j : ℕ) → 1 ≤ j → j < count b' → row recordWidth (editRecords s b' k rs) j ≡ freshRow s b' j
-      edit-record j p q = go (decLt j k) (decLt (k + 2) j)
-        where
-          kept : (k ≤ j → j ≤ k + 2 → ⊥) → row recordWidth (editRecords s b' k rs) j ≡ freshRow s b' j
-          kept o =
-              edit-record-kept j o ∙ (f .records j p (omega arith) ∙
-              row-local s b b' j (λ i x y. sym (same i (λ e. o (omega arith) (omega arith)))))
+    edit-record : (j : ℕ) → 1 ≤ j → j < count b' → row recordWidth rs' j ≡ freshRow s b' j
+    edit-record j p q = go (decLt j k) (decLt (k + 2) j)
+      where
+        kept : (k ≤ j → j < k + 3 → ⊥) → row recordWidth rs' j ≡ freshRow s b' j
+        kept o =
+            edit-record-kept s k (k + 3) (k + 34) b' rs vs rh vh j o ∙ (f .records j p (omega arith) ∙
+            row-local s b b' j (λ i x y. sym (same i (λ e. o (omega arith) (omega arith)))))
 
-          go : Dec (j < k) → Dec (k + 2 < j) → row recordWidth (editRecords s b' k rs) j ≡ freshRow s b' j
-          go (yes x) d = kept (λ a c. omega arith)
-          go (no x) (yes y) = kept (λ a c. omega arith)
-          go (no x) (no y) = edit-record-made j p q (omega arith) (omega arith)
+        go : Dec (j < k) → Dec (k + 2 < j) → row recordWidth rs' j ≡ freshRow s b' j
+        go (yes x) d = kept (λ a c. omega arith)
+        go (no x) (yes y) = kept (λ a c. omega arith)
+        go (no x) (no y) = edit-record-made s k (k + 3) (k + 34) b' rs vs rh vh j p q (omega arith) (omega arith)
 
-      pub edit-value : (j : ℕ) → 1 ≤ j → j < count b' → row valueWidth (editValues s b' k (editRecords s b' k rs) vs) j ≡ freshValues s b' j
-      edit-value j p q = go (decLt (j + 1) k) (decLt (k + 33) j)
-        where
-          kept : (k ≤ j + 1 → j ≤ k + 33 → ⊥) → row valueWidth (editValues s b' k (editRecords s b' k rs) vs) j ≡ freshValues s b' j
-          kept o =
-              edit-value-kept j o ∙ (f .values j p (omega arith) ∙
-              value-local s b b' j p (omega arith) (reach-same j)
-              (λ i x y. sym (same i (λ e. o (omega (arith, reach-at b j (omega arith))) (omega arith)))))
+    edit-value : (j : ℕ) → 1 ≤ j → j < count b' → row valueWidth vs' j ≡ freshValues s b' j
+    edit-value j p q = go (decLt (j + 1) k) (decLt (k + 33) j)
+      where
+        kept : (k ≤ j + 1 → j < k + 34 → ⊥) → row valueWidth vs' j ≡ freshValues s b' j
+        kept o =
+            edit-value-kept s k (k + 3) (k + 34) b' rs vs rh vh j o ∙ (f .values j p (omega arith) ∙
+            value-local s b b' j p (omega arith) (reach-same j)
+            (λ i x y. sym (same i (λ e. o (omega (arith, reach-at b j (omega arith))) (omega arith)))))
 
-          go : Dec (j + 1 < k) → Dec (k + 33 < j) → row valueWidth (editValues s b' k (editRecords s b' k rs) vs) j ≡ freshValues s b' j
-          go (yes x) d = kept (λ a c. omega arith)
-          go (no x) (yes y) = kept (λ a c. omega arith)
-          go (no x) (no y) =
-              edit-value-made j p q (omega arith) (omega arith) ∙ value-from s b' (editRecords s b' k rs) j p q edit-record
+        go : Dec (j + 1 < k) → Dec (k + 33 < j) → row valueWidth vs' j ≡ freshValues s b' j
+        go (yes x) d = kept (λ a c. omega arith)
+        go (no x) (yes y) = kept (λ a c. omega arith)
+        go (no x) (no y) = edit-value-made s k (k + 3) (k + 34) b' rs vs rh vh j p q (omega arith) (omega arith) ∙ value-from s b' rs' j p q edit-record
 
-      pub edit-fresh : Fresh s (state b' (editRecords s b' k rs) (editValues s b' k (editRecords s b' k rs) vs))
-      edit-fresh = record { records = edit-record; values = edit-value }
+    pub edit-fresh : Fresh s (state b' rs' vs')
+    edit-fresh = record { records = edit-record; values = edit-value }
 
 -- ---- What a replacement leaves as it was, worked out afresh
 

@@ -5,25 +5,26 @@ use mathlib.Core.Bool.{Bool, true, false, cond, not, _&&_}
 use Prim.Native.Nat.{ℕ, zero, suc, _+_, _/_, _≤_, _<_}
 use native.Mathlib.Omega.{arith}
 use native.Mathlib.Decide.{ℕ-discrete}
-use lib.Dec.{ltb, eqb}
+use lib.Dec.{ltb, leb, eqb}
 use lib.ListN.{length}
-use borrow.Author.Tests.{ltb-true, ltb-false, eqb-true, eqb-false}
+use borrow.Author.Tests.{ltb-true, ltb-false, leb-true, leb-false, eqb-true, eqb-false}
 use Rattle.chart_fields.specs.Search.{firstFrom, firstBelow}
 use Rattle.chart_fields.proofs.Search.{clean}
 use Rattle.chart_fields.specs.Objects.{badFields, falls}
 use Rattle.chart_entries.specs.Entries.{badEntries}
 use Rattle.chart_opening.specs.Header.{layoutOf, headerOk, settingsOf, settingsOk, tooLong}
-use Rattle.chart_opening.specs.Conditions.{refusalNumber, refusalPlace, refuseIf, refuseAt, firstOf, bodyConditions, bodyOf, chartConditions, tooFew, openConditions, openVerdict}
-use Rattle.chart_opening.specs.Accepted.{first-refused, first-passed, refuses}
+use Rattle.chart_opening.specs.Conditions.{Opens, refusalNumber, refusalPlace, refuseIf, refuseAt, firstOf, bodyConditions, bodyOf, chartConditions, tooFew, openConditions, openVerdict}
+use Rattle.chart_opening.specs.Accepted.{first-accepts, first-refused, first-passed, refuses}
 use Rattle.chart_opening.specs.declared.Refusal.{Refusal}
-use Rattle.chart_opening.specs.declared.Refusal.the-variants.{Header, Setting, Object, Entries, Order, Length, Table, Place}
+use Rattle.chart_opening.specs.declared.Refusal.the-variants.{Header, Setting, Object, Entries, Order, Length, Table, Place, Room}
 use Rattle.chart_opening.specs.declared.Verdict.{Verdict}
 use Rattle.chart_opening.specs.declared.Verdict.the-variants.{Accepted, Refused}
 use Rattle.chart_replacing.specs.Replace.{putObject, placeConditions, replaceConditions, replaceVerdict}
+use Rattle.chart_inserting.specs.Insert.{insertObject, removeObject, noRoom, insertPlaceConditions, insertConditions, removePlaceConditions, removeConditions}
 use Rattle.calls.specs.Tables.{entriesOf}
 use Rattle.calls.specs.Afresh.{Figure, count}
-use Rattle.calls.specs.Conditions.{Lengths, scratchShort, replace, readRecord, readValues, figure, readConditions, readVerdict, figureConditions, opening, refusal}
-use Rattle.calls.specs.Statement.{Lowest, Placed, ReplacePlaced, of-chart, of-place, of-length, of-result}
+use Rattle.calls.specs.Conditions.{Lengths, scratchShort, replace, insert, remove, readRecord, readValues, figure, readConditions, readVerdict, figureConditions, opening, refusal}
+use Rattle.calls.specs.Statement.{Lowest, Placed, ReplacePlaced, of-chart, of-place, of-length, of-result, InsertPlaced, insert-of-chart, insert-of-place, insert-of-room, insert-of-length, insert-of-result, RemovePlaced, remove-of-chart, remove-of-place, remove-of-result}
 
 pub same-refusal : {q r : Refusal} → Refused q ≡ Refused r → q ≡ r
 same-refusal e = cc
@@ -145,11 +146,66 @@ module _ (k : ℕ) (o : List ℕ) (r v : ℕ) (b : List ℕ) (q : Refusal) where
           let f : opening r v b ≡ Refused q = a ∙ ap Refused s in
           of-chart f (opening-placed r v b q f)
 
+-- ---- An insertion
+
+module _ (k : ℕ) (o : List ℕ) (r v : ℕ) (b : List ℕ) (q : Refusal) where
+  -- 1 to 7 for the chart as it is lent
+  abbrev asks : List Verdict
+  asks = chartConditions b ++ (tooFew (entriesOf r v) (count b + 1) ∷ [])
+
+  asks-placed : Each (Placed b) asks
+  asks-placed = each-append (Placed b) (chartConditions b) _ (chart-placed b) (each-if (Placed b) (ltb (entriesOf r v) (count b + 1)) Table tt, tt)
+
+  in-place : Opens b → firstOf (insertPlaceConditions b k o) ≡ Refused q → InsertPlaced k o r v b q
+  unfolding insertPlaceConditions firstOf
+  in-place a e = go (leb k (count b)) refl (noRoom b) refl (eqb (length o) (layoutOf b .«object_size»)) refl e
+    where
+      go : (s : Bool) → leb k (count b) ≡ s → (u : Bool) → noRoom b ≡ u → (t : Bool) → eqb (length o) (layoutOf b .«object_size») ≡ t
+          → firstOf (refuseIf (not s) Place ∷ refuseIf u Room ∷ refuseIf (not t) (Object k) ∷ bodyOf (insertObject k o b)) ≡ Refused q → InsertPlaced k o r v b q
+      go false l u n t m f = insert-of-place a (leb-false k (count b) l) (sym (same-refusal f))
+      go true l true n t m f = insert-of-room a (leb-true k (count b) l) n (sym (same-refusal f))
+      go true l false n false m f = insert-of-length a (leb-true k (count b) l) n (eqb-false (length o) (layoutOf b .«object_size») m) (sym (same-refusal f))
+      go true l false n true m f =
+          insert-of-result a (leb-true k (count b) l) n (eqb-true (length o) (layoutOf b .«object_size») m) (first-each (Placed (insertObject k o b)) (bodyOf (insertObject k o b)) (body-placed (insertObject k o b)) q f)
+
+  pub insert-placed : refusal (insert k o) r v b ≡ Refused q → InsertPlaced k o r v b q
+  unfolding refusal insertConditions
+  insert-placed e = go (firstOf asks) refl
+    where
+      go : (w : Verdict) → firstOf asks ≡ w → InsertPlaced k o r v b q
+      go Accepted a = in-place (first-accepts (chartConditions b) _ a) (sym (first-passed asks (insertPlaceConditions b k o) a) ∙ e)
+      go (Refused p) a =
+          let s : p ≡ q = same-refusal (sym (first-refused asks (insertPlaceConditions b k o) p a) ∙ e) in
+          let f : firstOf asks ≡ Refused q = a ∙ ap Refused s in
+          insert-of-chart f (first-each (Placed b) asks asks-placed q f)
+
+-- ---- A removal
+
+module _ (k r v : ℕ) (b : List ℕ) (q : Refusal) where
+  out-place : opening r v b ≡ Accepted → firstOf (removePlaceConditions b k) ≡ Refused q → RemovePlaced k r v b q
+  unfolding removePlaceConditions firstOf
+  out-place a e = go (ltb k (count b)) refl e
+    where
+      go : (s : Bool) → ltb k (count b) ≡ s → firstOf (refuseIf (not s) Place ∷ bodyOf (removeObject k b)) ≡ Refused q → RemovePlaced k r v b q
+      go false l f = remove-of-place a (ltb-false k (count b) l) (sym (same-refusal f))
+      go true l f = remove-of-result a (ltb-true k (count b) l) (first-each (Placed (removeObject k b)) (bodyOf (removeObject k b)) (body-placed (removeObject k b)) q f)
+
+  pub remove-placed : refusal (remove k) r v b ≡ Refused q → RemovePlaced k r v b q
+  unfolding refusal removeConditions
+  remove-placed e = go (opening r v b) refl
+    where
+      go : (w : Verdict) → opening r v b ≡ w → RemovePlaced k r v b q
+      go Accepted a = out-place a (sym (first-passed (openConditions b (entriesOf r v)) (removePlaceConditions b k) a) ∙ e)
+      go (Refused p) a =
+          let s : p ≡ q = same-refusal (sym (first-refused (openConditions b (entriesOf r v)) (removePlaceConditions b k) p a) ∙ e) in
+          let f : opening r v b ≡ Refused q = a ∙ ap Refused s in
+          remove-of-chart f (opening-placed r v b q f)
+
 -- ---- Number and place tell which refusal it is
 
 named : ℕ → ℕ → Refusal
 named n p =
-    cond (eqb n 1) Header (cond (eqb n 2) Setting (cond (eqb n 3) (Object p) (cond (eqb n 4) (Entries p) (cond (eqb n 5) (Order p) (cond (eqb n 6) Length (cond (eqb n 7) Table Place))))))
+    cond (eqb n 1) Header (cond (eqb n 2) Setting (cond (eqb n 3) (Object p) (cond (eqb n 4) (Entries p) (cond (eqb n 5) (Order p) (cond (eqb n 6) Length (cond (eqb n 7) Table (cond (eqb n 8) Place Room)))))))
 
 named-by : (q : Refusal) → named (refusalNumber q) (refusalPlace q) ≡ q
 unfolding named
@@ -161,6 +217,7 @@ named-by (Order i) = refl
 named-by Length = refl
 named-by Table = refl
 named-by Place = refl
+named-by Room = refl
 
 pub refusal-told : (q q' : Refusal) → refusalNumber q ≡ refusalNumber q' → refusalPlace q ≡ refusalPlace q' → q ≡ q'
 refusal-told q q' e f = sym (named-by q) ∙ ((λ i. named (e i) (f i)) ∙ named-by q')

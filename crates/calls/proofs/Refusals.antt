@@ -3,7 +3,7 @@ use mathlib.Core.Path.{_≡_, refl, sym, ap, _∙_}
 use mathlib.Core.Logic.{_↔_}
 use mathlib.Core.List.{List, [], _∷_, _++_, append-assoc}
 use mathlib.Core.Bool.{Bool, true, false, _&&_, _||_}
-use Prim.Native.Nat.{ℕ, _+_, _*_, _/_, _≤_, _<_, min}
+use Prim.Native.Nat.{ℕ, suc, _+_, _*_, _/_, _≤_, _<_, min}
 use native.Mathlib.Omega.{arith}
 use lib.Dec.{ltb}
 use lib.ListN.{length}
@@ -17,9 +17,10 @@ use Rattle.chart_opening.specs.declared.Verdict.{Verdict}
 use Rattle.chart_opening.specs.declared.Verdict.the-variants.{Accepted, Refused}
 use Rattle.chart_opening.proofs.Header.{both}
 use Rattle.chart_replacing.specs.Accepted.{Taken, taken, room}
+use Rattle.chart_inserting.specs.Accepted.{Inserted, Removed, inserted, insert-entries, removed, remove-entries}
 use Rattle.calls.specs.Tables.{recordWidth, valueWidth, leastScratch, entriesOf}
 use Rattle.calls.specs.Afresh.{Figure, count}
-use Rattle.calls.specs.Conditions.{Lengths, replace, readRecord, readValues, figure, scratchShort, readConditions, readVerdict, figureConditions, figureVerdict, opening, refusal}
+use Rattle.calls.specs.Conditions.{Lengths, replace, insert, remove, readRecord, readValues, figure, scratchShort, readConditions, readVerdict, figureConditions, figureVerdict, opening, refusal}
 
 or-false : (a b : Bool) → (a || b) ≡ false → (a ≡ false) × (b ≡ false)
 or-false true b e = let z : _≡_ {A = ℕ} 0 1 = cc in absurd (omega arith)
@@ -42,6 +43,14 @@ opening-none r v b o x y = opens-with b (entriesOf r v) o (omega arith)
 pub accepted-replace : (k : ℕ) (o : List ℕ) (r v : ℕ) (b : List ℕ) → refusal (replace k o) r v b ≡ Accepted → Taken b k o × Roomy r v (count b)
 unfolding refusal
 accepted-replace k o r v b e = (taken b k o (entriesOf r v) e, roomy r v (count b) (room b k o (entriesOf r v) e))
+
+pub accepted-insert : (k : ℕ) (o : List ℕ) (r v : ℕ) (b : List ℕ) → refusal (insert k o) r v b ≡ Accepted → Inserted b k o × Roomy r v (suc (count b))
+unfolding refusal
+accepted-insert k o r v b e = (inserted b k o (entriesOf r v) e, roomy r v (suc (count b)) (omega (arith, insert-entries b k o (entriesOf r v) e)))
+
+pub accepted-remove : (k r v : ℕ) (b : List ℕ) → refusal (remove k) r v b ≡ Accepted → Removed b k × Roomy r v (count b)
+unfolding refusal
+accepted-remove k r v b e = (removed b k (entriesOf r v) e, roomy r v (count b) (remove-entries b k (entriesOf r v) e))
 
 -- a reading: its place lies in the chart, and in the table
 pub record Read (b : List ℕ) (entries k : ℕ) : Type 0 where

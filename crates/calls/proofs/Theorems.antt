@@ -23,14 +23,15 @@ use Rattle.calls.specs.Conditions.{replace, opening}
 use Rattle.calls.specs.Calls.{Answer, State, opened, openAnswer, Call, perform, Question, question, plain}
 use Rattle.calls.specs.Statement.{Outside, Fresh, settingsIn, Admissible, Kept, edits, Sound, Frame, unplaced, fieldsIn, Agree, Alike, Claims}
 use Rattle.calls.proofs.Refusals.{opening-met, opening-none, figure-accepted}
-use Rattle.calls.proofs.Places.{opening-placed, replace-placed, record-placed, values-placed, figure-placed, refusal-told}
+use Rattle.calls.proofs.Places.{opening-placed, replace-placed, insert-placed, remove-placed, record-placed, values-placed, figure-placed, refusal-told}
 use Rattle.calls.proofs.Limits.{opening-limit, place-limit}
 use Rattle.calls.proofs.Locality.{value-local, reach-at, strain-from, figure-from, open-fresh, read-back}
 use Rattle.calls.proofs.Simulating.{simulate, after-last, throughout-front, throughout-next}
 use Rattle.calls.proofs.Steps.{Inv, Good, step, opened-inv, outside-refl, outside-trans, outside-later}
 use Rattle.calls.proofs.Keeping.{plain-kept}
 use Rattle.calls.proofs.Frames.{frame}
-use Rattle.calls.proofs.Alone.{steps, own-calls, record-alone, values-alone, figure-alone, record-reads, values-reads, figure-reads, writes, counts, opening-reads, opening-writes, opened-outside, scratch-cleared, scratch-kept}
+use Rattle.calls.proofs.Moves.{insert-moves, remove-moves}
+use Rattle.calls.proofs.Alone.{steps, own-calls, record-alone, values-alone, figure-alone, record-reads, values-reads, figure-reads, writes, counts, keeps, opening-reads, opening-writes, opened-outside, scratch-cleared, scratch-kept}
 
 -- ---- The list of calls
 
@@ -178,6 +179,7 @@ theorem = record {
   own-calls = own-calls;
   opening-writes = opening-writes;
   writes = writes;
+  keeps = keeps;
   opening-reads = opening-reads;
   record-reads = record-reads;
   values-reads = values-reads;
@@ -185,10 +187,14 @@ theorem = record {
   counts = counts;
   frame = frame;
   frame-in-list = frame-in-list;
+  insert-moves = insert-moves;
+  remove-moves = remove-moves;
   alike = likeness;
   alike-opened = likeness-opened;
   opening-placed = opening-placed;
   replace-placed = replace-placed;
+  insert-placed = insert-placed;
+  remove-placed = remove-placed;
   record-placed = record-placed;
   values-placed = values-placed;
   figure-placed = figure-placed;

@@ -5,7 +5,7 @@ use Prim.Native.Nat.{ℕ, _+_, _-_, min, max}
 use lib.Ieee.{Float}
 use lib.ListN.{length, replicate}
 use Rattle.num_floats.specs.Numbers.{zero64}
-use Rattle.num_tables.specs.Parts.{row, fill}
+use Rattle.num_tables.specs.Parts.{row, fill, rowsUp, rowsDown}
 use Rattle.osu_records.specs.Rows.{recordAt}
 use Rattle.chart_opening.specs.Header.{settingsOf}
 use Rattle.chart_opening.specs.Conditions.{ifAccepted}
@@ -13,9 +13,10 @@ use Rattle.chart_opening.specs.declared.Settings.{Settings}
 use Rattle.chart_opening.specs.declared.Refusal.{Refusal}
 use Rattle.chart_opening.specs.declared.Verdict.{Verdict}
 use Rattle.chart_replacing.specs.Replace.{putObject}
+use Rattle.chart_inserting.specs.Insert.{insertObject, removeObject}
 use Rattle.calls.specs.Tables.{recordWidth, valueWidth, Borrowed, contents, lengthOf, tableAfter}
 use Rattle.calls.specs.Afresh.{Record, count, freshRecord, freshRow, freshValues, valuesFrom, Figure, Amount, freshFigure, figureFrom}
-use Rattle.calls.specs.Conditions.{Scratch, lengths, Operation, replace, readRecord, readValues, figure, opening, refusal}
+use Rattle.calls.specs.Conditions.{Scratch, lengths, Operation, replace, insert, remove, readRecord, readValues, figure, opening, refusal}
 
 -- ---- Which entries are made anew
 
@@ -26,21 +27,46 @@ openStart = 1
 unfoldable pub openMade : ℕ → ℕ
 openMade n = n - 1
 
--- by a replacement at place k, in a chart of n objects: records k to k + 2, those of places 1 to n - 1
+-- by an edit at place k, in what is then a chart of n objects: the records from k to before e, those of places 1 to n - 1
 unfoldable pub recordsStart : ℕ → ℕ
 recordsStart k = max 1 k
 
-unfoldable pub recordsMade : ℕ → ℕ → ℕ
-recordsMade k n = min (k + 3) n - max 1 k
+unfoldable pub recordsMade : ℕ → ℕ → ℕ → ℕ
+recordsMade k e n = min e n - max 1 k
 
--- and values k - 1 to k + 33
+-- and the values from k - 1 to before e
 unfoldable pub valuesStart : ℕ → ℕ
 valuesStart k = max 1 (k - 1)
 
-unfoldable pub valuesMade : ℕ → ℕ → ℕ
-valuesMade k n = min (k + 34) n - max 1 (k - 1)
+unfoldable pub valuesMade : ℕ → ℕ → ℕ → ℕ
+valuesMade k e n = min e n - max 1 (k - 1)
 
--- ---- What opening and replacing leave in the tables
+-- a replacement makes anew records k to k + 2 and values k - 1 to k + 33
+abbrev pub replacedRecords : ℕ → ℕ
+replacedRecords k = k + 3
+
+abbrev pub replacedValues : ℕ → ℕ
+replacedValues k = k + 34
+
+-- an insertion the same, and record 3 for k = 0: it can have an angle now
+abbrev pub insertedRecords : ℕ → ℕ
+insertedRecords k = max (k + 3) 4
+
+abbrev pub insertedValues : ℕ → ℕ
+insertedValues k = k + 34
+
+-- a removal one place less: records k to k + 1 (record 2 for k = 0) and values k - 1 to k + 32
+abbrev pub removedRecords : ℕ → ℕ
+removedRecords k = max (k + 2) 3
+
+abbrev pub removedValues : ℕ → ℕ
+removedValues k = k + 33
+
+-- the first row that moves with its object, entry 0 being none
+abbrev pub firstMoved : ℕ → ℕ
+firstMoved k = max 1 k
+
+-- ---- What opening and editing leave in the tables
 
 unfoldable pub openRecords : Settings → List ℕ → List Float → List Float
 openRecords s b rs = fill recordWidth (freshRow s b) openStart (openMade (count b)) rs
@@ -49,17 +75,20 @@ openRecords s b rs = fill recordWidth (freshRow s b) openStart (openMade (count 
 unfoldable pub openValues : Settings → List ℕ → List Float → List Float → List Float
 openValues s b rs vs = fill valueWidth (valuesFrom s b rs) openStart (openMade (count b)) vs
 
-unfoldable pub editRecords : Settings → List ℕ → ℕ → List Float → List Float
-editRecords s b k rs = fill recordWidth (freshRow s b) (recordsStart k) (recordsMade k (count b)) rs
+unfoldable pub editRecords : Settings → List ℕ → ℕ → ℕ → List Float → List Float
+editRecords s b k e rs = fill recordWidth (freshRow s b) (recordsStart k) (recordsMade k e (count b)) rs
 
-unfoldable pub editValues : Settings → List ℕ → ℕ → List Float → List Float → List Float
-editValues s b k rs vs = fill valueWidth (valuesFrom s b rs) (valuesStart k) (valuesMade k (count b)) vs
+-- from the records rs
+unfoldable pub editValues : Settings → List ℕ → ℕ → ℕ → List Float → List Float → List Float
+editValues s b k e rs vs = fill valueWidth (valuesFrom s b rs) (valuesStart k) (valuesMade k e (count b)) vs
 
 -- ---- What a call answers, and what it leaves of what it borrows
 
 pub data Answer : Type 0 where
   refused : Refusal → Answer
   replaced : Answer
+  inserted : Answer
+  removed : Answer
   recordIs : Record → Answer
   valuesAre : List Float → Answer
   figureIs : Amount → Answer
@@ -101,12 +130,30 @@ openLeaves st = ifAccepted (openAnswer st) (opened st) (λ r. st)
 unfoldable pub edited : ℕ → List ℕ → State → State
 edited k o st =
     let b = putObject k o (st .chart) in
-    let rs = editRecords (settingsOf b) b k (st .records) in
-    record { chart = b; records = rs; values = editValues (settingsOf b) b k rs (st .values) }
+    let rs = editRecords (settingsOf b) b k (replacedRecords k) (st .records) in
+    record { chart = b; records = rs; values = editValues (settingsOf b) b k (replacedValues k) rs (st .values) }
+
+-- a chart with an object put in at place k: rows move up with their objects, and what can have changed is made anew
+unfoldable pub putIn : ℕ → List ℕ → State → State
+putIn k o st =
+    let b = insertObject k o (st .chart) in
+    let rs = editRecords (settingsOf b) b k (insertedRecords k) (rowsUp recordWidth (firstMoved k) (count (st .chart)) (st .records)) in
+    let vs = rowsUp valueWidth (firstMoved k) (count (st .chart)) (st .values) in
+    record { chart = b; records = rs; values = editValues (settingsOf b) b k (insertedValues k) rs vs }
+
+-- a chart with the object at place k taken out: rows move down
+unfoldable pub takenOut : ℕ → State → State
+takenOut k st =
+    let b = removeObject k (st .chart) in
+    let rs = editRecords (settingsOf b) b k (removedRecords k) (rowsDown recordWidth (firstMoved k) (count (st .chart)) (st .records)) in
+    let vs = rowsDown valueWidth (firstMoved k) (count (st .chart)) (st .values) in
+    record { chart = b; records = rs; values = editValues (settingsOf b) b k (removedValues k) rs vs }
 
 -- a call that meets no condition
 unfoldable pub execute : Operation → State → Outcome
 execute (replace k o) st = record { answer = replaced; leaves = edited k o st }
+execute (insert k o) st = record { answer = inserted; leaves = putIn k o st }
+execute (remove k) st = record { answer = removed; leaves = takenOut k st }
 execute (readRecord k) st = record { answer = recordIs (recordAt (st .records) k); leaves = st }
 execute (readValues k) st = record { answer = valuesAre (row valueWidth (st .values) k); leaves = st }
 execute (figure f l) st = record { answer = figureIs (figureFrom f (settingsOf (st .chart)) (st .chart) (st .values)); leaves = st }
@@ -166,6 +213,8 @@ question r v c = record { operation = c .operation; records = lengthOf (c .recor
 
 unfoldable pub compute : Operation → List ℕ → Answer × List ℕ
 compute (replace k o) b = (replaced, putObject k o b)
+compute (insert k o) b = (inserted, insertObject k o b)
+compute (remove k) b = (removed, removeObject k b)
 compute (readRecord k) b = (recordIs (freshRecord (settingsOf b) b k), b)
 compute (readValues k) b = (valuesAre (freshValues (settingsOf b) b k), b)
 compute (figure f l) b = (figureIs (freshFigure f (settingsOf b) b), b)

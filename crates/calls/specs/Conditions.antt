@@ -10,6 +10,7 @@ use Rattle.chart_opening.specs.Conditions.{refuseIf, firstOf, chartConditions, 
 use Rattle.chart_opening.specs.declared.Refusal.the-variants.{Header, Table, Place}
 use Rattle.chart_opening.specs.declared.Verdict.{Verdict}
 use Rattle.chart_replacing.specs.Replace.{replaceVerdict}
+use Rattle.chart_inserting.specs.Insert.{insertVerdict, removeVerdict}
 use Rattle.calls.specs.Tables.{leastScratch, recordEntries, valueEntries, entriesOf}
 use Rattle.calls.specs.Afresh.{Figure}
 
@@ -32,9 +33,12 @@ lengths x = record { aim = length (x .aim); aimNoSliders = length (x .aimNoSlide
 unfoldable pub scratchShort : Lengths → Bool
 scratchShort l = ltb (l .aim) leastScratch || (ltb (l .aimNoSliders) leastScratch || (ltb (l .speed) leastScratch || ltb (l .flashlight) leastScratch))
 
--- what is asked of an opened chart: to put an object at a place, to read the record or the values of a place, and to work out a figure
+-- what is asked of an opened chart: to put an object at a place, to put one in before a place or take one out, to read the record or the values of a place, and
+-- to work out a figure
 pub data Operation : Type 0 where
   replace : ℕ → List ℕ → Operation
+  insert : ℕ → List ℕ → Operation
+  remove : ℕ → Operation
   readRecord : ℕ → Operation
   readValues : ℕ → Operation
   figure : Figure → Lengths → Operation
@@ -64,6 +68,8 @@ opening r v b = openVerdict b (entriesOf r v)
 -- an operation on an opened chart, with the lengths of the tables that it is lent
 unfoldable pub refusal : Operation → ℕ → ℕ → List ℕ → Verdict
 refusal (replace k o) r v b = replaceVerdict b k o (entriesOf r v)
+refusal (insert k o) r v b = insertVerdict b k o (entriesOf r v)
+refusal (remove k) r v b = removeVerdict b k (entriesOf r v)
 refusal (readRecord k) r v b = readVerdict b (recordEntries r) k
 refusal (readValues k) r v b = readVerdict b (valueEntries v) k
 refusal (figure f l) r v b = figureVerdict b (valueEntries v) (scratchShort l)

@@ -1,40 +1,44 @@
--- What is claimed of the calls: demand 3 over every list of calls (`Sound`), what a call writes (`Outside`), what a replacement leaves as it was (`Frame`), charts
--- that are alike (`Alike`), the place that a refusal returns (`Placed`), and how the promises of the public functions come in. `Claims` has them all. Definitions only.
+-- What is claimed of the calls: demand 3 over every list of calls (`Sound`), what a call writes (`Outside`), what a replacement leaves as it was (`Frame`), what an
+-- insertion or a removal moves (`Moved`), charts that are alike (`Alike`), the place that a refusal returns (`Placed`), and how the promises of the public functions come in. `Claims` has them all. Definitions only.
 use mathlib.Core.Path.{_≡_}
 use mathlib.Core.Logic.{_↔_}
 use mathlib.Core.List.{List, [], _∷_, _++_, map}
 use mathlib.Core.Bool.{Bool, true, false, cond}
-use Prim.Native.Nat.{ℕ, zero, suc, _+_, _*_, _<_, _≤_}
+use Prim.Native.Nat.{ℕ, zero, suc, _+_, _-_, _*_, _<_, _≤_, max}
 use lib.Ieee.{Float}
 use lib.ListN.{length, take, drop, set}
 use Rattle.num_floats.specs.Fields.{u32At}
-use Rattle.chart_fields.specs.Limits.{headerSize, mostObjects}
+use Rattle.chart_fields.specs.Limits.{mostObjects}
 use Rattle.chart_fields.specs.Objects.{fieldsOf, badFields, falls}
 use Rattle.chart_fields.specs.declared.Fields.{Fields}
 use Rattle.chart_entries.specs.Entries.{nestedOf, pointOf, badEntries}
 use Rattle.num_tables.specs.Parts.{row}
 use Rattle.osu_records.specs.Rows.{recordAt}
-use Rattle.chart_opening.specs.Header.{layoutOf, settingsOf}
-use Rattle.chart_opening.specs.Conditions.{Opens, refusalNumber, refusalPlace}
+use Rattle.chart_opening.specs.Header.{layoutOf, settingsOf, chartLength}
+use Rattle.chart_opening.specs.Conditions.{Opens, firstOf, chartConditions, tooFew, refusalNumber, refusalPlace}
 use Rattle.chart_opening.specs.declared.Settings.{Settings}
 use Rattle.chart_opening.specs.declared.Refusal.{Refusal}
-use Rattle.chart_opening.specs.declared.Refusal.the-variants.{Header, Setting, Object, Entries, Order, Length, Table, Place}
+use Rattle.chart_opening.specs.declared.Refusal.the-variants.{Header, Setting, Object, Entries, Order, Length, Table, Place, Room}
 use Rattle.chart_opening.specs.declared.Verdict.the-variants.{Accepted, Refused}
 use Rattle.chart_replacing.specs.Replace.{objectBytes, putObject}
+use Rattle.chart_inserting.specs.Insert.{insertObject, removeObject, noRoom}
+use Rattle.chart_inserting.specs.OneMore.{countBytes, settingBytes, entryBytes}
 use Rattle.skills.specs.declared.Skill.{Skill}
 use Rattle.skills.specs.Strains.{initialStrain, room, closeTo, reached, walk}
 use Rattle.skills.specs.Chart.{startAt}
 use Rattle.calls.specs.Simulation.{answers, after, Throughout}
-use Rattle.calls.specs.Tables.{recordWidth, valueWidth, Borrowed, own, IsOwn}
+use Rattle.calls.specs.Tables.{recordWidth, valueWidth, entriesOf, Borrowed, own, IsOwn}
 use Rattle.calls.specs.Afresh.{Figure, count, freshRecord, freshRow, freshValues, freshStrains, freshFigure, strainsFrom, figureFrom}
-use Rattle.calls.specs.Conditions.{Scratch, Lengths, lengths, scratchShort, Operation, replace, readRecord, readValues, figure, opening, refusal}
-use Rattle.calls.specs.Calls.{Answer, refused, replaced, recordIs, valuesAre, figureIs, State, state, opened, openAnswer, openLeaves, verdictIn, outcome, zeros, scratchAfter, Call, lent, perform, question, plain}
+use Rattle.calls.specs.Conditions.{Scratch, Lengths, lengths, scratchShort, Operation, replace, insert, remove, readRecord, readValues, figure, opening, refusal}
+use Rattle.calls.specs.Calls.{Answer, refused, replaced, inserted, removed, recordIs, valuesAre, figureIs, State, state, opened, openAnswer, openLeaves, execute, verdictIn, outcome, zeros, scratchAfter, Call, lent, perform, question, plain}
 
 -- ---- The edits of a list of calls
 
 -- an accepted edit
 pub data Edit : Type 0 where
   put : ℕ → List ℕ → Edit
+  putBefore : ℕ → List ℕ → Edit
+  takeOut : ℕ → Edit
 
 -- the objects of a chart in their order, each as its bytes
 unfoldable pub blocksFrom : List ℕ → ℕ → ℕ → List (List ℕ)
@@ -47,20 +51,26 @@ blocks b = blocksFrom b 0 (count b)
 -- what an edit makes of them, and what a list of edits does, the first one first
 unfoldable pub applied : Edit → List (List ℕ) → List (List ℕ)
 applied (put k o) os = set os k o
+applied (putBefore k o) os = take k os ++ (o ∷ drop k os)
+applied (takeOut k) os = take k os ++ drop (suc k) os
 
 unfoldable pub appliedAll : List Edit → List (List ℕ) → List (List ℕ)
 appliedAll [] os = os
 appliedAll (e ∷ es) os = appliedAll es (applied e os)
 
-unfoldable pub isReplaced : Answer → Bool
-isReplaced (refused r) = false
-isReplaced replaced = true
-isReplaced (recordIs x) = false
-isReplaced (valuesAre x) = false
-isReplaced (figureIs x) = false
+unfoldable pub isCarriedOut : Answer → Bool
+isCarriedOut (refused r) = false
+isCarriedOut replaced = true
+isCarriedOut inserted = true
+isCarriedOut removed = true
+isCarriedOut (recordIs x) = true
+isCarriedOut (valuesAre x) = true
+isCarriedOut (figureIs x) = true
 
 unfoldable pub withEdit : Operation → Answer → List Edit → List Edit
-withEdit (replace k o) x es = cond (isReplaced x) (put k o ∷ es) es
+withEdit (replace k o) x es = cond (isCarriedOut x) (put k o ∷ es) es
+withEdit (insert k o) x es = cond (isCarriedOut x) (putBefore k o ∷ es) es
+withEdit (remove k) x es = cond (isCarriedOut x) (takeOut k ∷ es) es
 withEdit (readRecord k) x es = es
 withEdit (readValues k) x es = es
 withEdit (figure f l) x es = es
@@ -71,18 +81,23 @@ edits [] xs = []
 edits (c ∷ cs) [] = []
 edits (c ∷ cs) (x ∷ xs) = withEdit (c .operation) x (edits cs xs)
 
--- chart b is chart b₀ with these edits and no other change
+-- chart b is chart b₀ with these edits and no other change; that its N, its offsets and its length follow is condition 1, which `Sound.opens` says it does not meet
 pub record Kept (b₀ : List ℕ) (es : List Edit) (b : List ℕ) : Type 0 where
-  pub header : take headerSize b ≡ take headerSize b₀
+  -- the numbers of nested entries and points, and the offset of the objects
+  pub counts : countBytes b ≡ countBytes b₀
+  -- the word at 28 and the settings
+  pub settings : settingBytes b ≡ settingBytes b₀
   pub objects : blocks b ≡ appliedAll es (blocks b₀)
   -- nested entries and points
-  pub rest : drop (layoutOf b .«nested_at») b ≡ drop (layoutOf b₀ .«nested_at») b₀
+  pub entries : entryBytes b ≡ entryBytes b₀
 
 -- ---- Tables
 
 -- the tables that an operation works on are the opening's: a reading works on the one that it reads, a figure on the values
 unfoldable pub OwnTables : Operation → Borrowed → Borrowed → Type 0
 OwnTables (replace k o) t u = IsOwn t × IsOwn u
+OwnTables (insert k o) t u = IsOwn t × IsOwn u
+OwnTables (remove k) t u = IsOwn t × IsOwn u
 OwnTables (readRecord k) t u = IsOwn t
 OwnTables (readValues k) t u = IsOwn u
 OwnTables (figure f l) t u = IsOwn u
@@ -114,7 +129,7 @@ pub record Sound (st₀ : State) (cs : List Call) (st : State) (xs : List Answer
   pub same : xs ≡ answers plain (map (question (length (st₀ .records)) (length (st₀ .values))) cs) (st₀ .chart)
   -- the chart is the plain chart's
   pub chart : st .chart ≡ after plain (map (question (length (st₀ .records)) (length (st₀ .values))) cs) (st₀ .chart)
-  -- each place holds its last accepted object, else its old bytes; header, nested entries and points stand
+  -- the objects are the opened chart's with the accepted edits applied in turn; settings, nested entries and points stand
   pub kept : Kept (st₀ .chart) (edits cs xs) (st .chart)
   -- the chart would still open, into any tables that are long enough
   pub opens : (r v : ℕ) → recordWidth * count (st .chart) ≤ r → valueWidth * count (st .chart) ≤ v → opening r v (st .chart) ≡ Accepted
@@ -151,6 +166,26 @@ pub record Frame (k : ℕ) (st st' : State) : Type 0 where
   pub strains-before : (i : ℕ) → i + 1 < k
       → strainsFrom (settingsIn st') (st' .chart) (st' .values) i ≡ strainsFrom (settingsIn st) (st .chart) (st .values) i
   pub afresh : FrameAfresh k (st .chart) (st' .chart)
+
+-- ---- What an insertion or a removal at place k moves, and what it leaves as it was
+
+-- of what is worked out afresh; b' has one object more than b, at place k: an insertion makes b' of b, a removal b of b'
+pub record MovedAfresh (k : ℕ) (b b' : List ℕ) : Type 0 where
+  pub records-before : (j : ℕ) → j < k → freshRecord (settingsOf b') b' j ≡ freshRecord (settingsOf b) b j
+  pub records-moved : (j : ℕ) → max (k + 2) 3 ≤ j → j < count b → freshRecord (settingsOf b') b' (suc j) ≡ freshRecord (settingsOf b) b j
+  pub values-before : (j : ℕ) → 1 ≤ j → j + 1 < k → freshValues (settingsOf b') b' j ≡ freshValues (settingsOf b) b j
+  pub values-moved : (j : ℕ) → k + 33 ≤ j → j < count b → freshValues (settingsOf b') b' (suc j) ≡ freshValues (settingsOf b) b j
+  pub strains-before : (j : ℕ) → j + 1 < k → freshStrains (settingsOf b') b' j ≡ freshStrains (settingsOf b) b j
+
+-- and of the tables, and of the strains that follow from them
+pub record Moved (k : ℕ) (st st' : State) : Type 0 where
+  pub records-before : (i : ℕ) → i < k → row recordWidth (st' .records) i ≡ row recordWidth (st .records) i
+  pub records-moved : (j : ℕ) → max (k + 2) 3 ≤ j → j < count (st .chart) → row recordWidth (st' .records) (suc j) ≡ row recordWidth (st .records) j
+  pub values-before : (i : ℕ) → i + 1 < k → row valueWidth (st' .values) i ≡ row valueWidth (st .values) i
+  pub values-moved : (j : ℕ) → k + 33 ≤ j → j < count (st .chart) → row valueWidth (st' .values) (suc j) ≡ row valueWidth (st .values) j
+  pub strains-before : (j : ℕ) → j + 1 < k
+      → strainsFrom (settingsIn st') (st' .chart) (st' .values) j ≡ strainsFrom (settingsIn st) (st .chart) (st .values) j
+  pub afresh : MovedAfresh k (st .chart) (st' .chart)
 
 -- ---- "Charts are alike about a place j from 1 up"
 
@@ -208,6 +243,7 @@ Placed b Setting = Unit {0}
 Placed b Length = Unit {0}
 Placed b Table = Unit {0}
 Placed b Place = Unit {0}
+Placed b Room = Unit {0}
 
 -- of a replacement: of the chart as it is lent; else no such place; else an object of another length, at its place; else of the chart as it would become
 pub data ReplacePlaced (k : ℕ) (o : List ℕ) (r v : ℕ) (b : List ℕ) (q : Refusal) : Type 0 where
@@ -215,6 +251,29 @@ pub data ReplacePlaced (k : ℕ) (o : List ℕ) (r v : ℕ) (b : List ℕ) (q : 
   of-place : opening r v b ≡ Accepted → count b ≤ k → q ≡ Place → ReplacePlaced k o r v b q
   of-length : opening r v b ≡ Accepted → k < count b → (length o ≡ layoutOf b .«object_size» → ⊥) → q ≡ Object k → ReplacePlaced k o r v b q
   of-result : opening r v b ≡ Accepted → k < count b → length o ≡ layoutOf b .«object_size» → Placed (putObject k o b) q → ReplacePlaced k o r v b q
+
+-- of an insertion: N + 1 entries are asked of the tables, and there is room or not
+pub data InsertPlaced (k : ℕ) (o : List ℕ) (r v : ℕ) (b : List ℕ) (q : Refusal) : Type 0 where
+  insert-of-chart : firstOf (chartConditions b ++ (tooFew (entriesOf r v) (count b + 1) ∷ [])) ≡ Refused q → Placed b q → InsertPlaced k o r v b q
+  insert-of-place : Opens b → count b < k → q ≡ Place → InsertPlaced k o r v b q
+  insert-of-room : Opens b → k ≤ count b → noRoom b ≡ true → q ≡ Room → InsertPlaced k o r v b q
+  insert-of-length : Opens b → k ≤ count b → noRoom b ≡ false → (length o ≡ layoutOf b .«object_size» → ⊥) → q ≡ Object k → InsertPlaced k o r v b q
+  insert-of-result : Opens b → k ≤ count b → noRoom b ≡ false → length o ≡ layoutOf b .«object_size» → Placed (insertObject k o b) q → InsertPlaced k o r v b q
+
+-- of a removal
+pub data RemovePlaced (k r v : ℕ) (b : List ℕ) (q : Refusal) : Type 0 where
+  remove-of-chart : opening r v b ≡ Refused q → Placed b q → RemovePlaced k r v b q
+  remove-of-place : opening r v b ≡ Accepted → count b ≤ k → q ≡ Place → RemovePlaced k r v b q
+  remove-of-result : opening r v b ≡ Accepted → k < count b → Placed (removeObject k b) q → RemovePlaced k r v b q
+
+-- ---- How many objects there are after a call that is carried out
+unfoldable pub countAfter : Operation → ℕ → ℕ
+countAfter (replace k o) n = n
+countAfter (insert k o) n = suc n
+countAfter (remove k) n = n - 1
+countAfter (readRecord k) n = n
+countAfter (readValues k) n = n
+countAfter (figure f l) n = n
 
 -- ---- How the promises of the public functions come in
 
@@ -242,12 +301,15 @@ pub record Claims : Type 0 where
   -- "Opening and editing write table entries 1 to N-1 only", in any state and for any tables; N is that of the chart which the call leaves
   pub opening-writes : (st : State) → Outside (count (st .chart)) st (openLeaves st)
   pub writes : (a : Operation) (st : State) → Outside (count (outcome a st .leaves .chart)) st (outcome a st .leaves)
-  -- opening writes nothing to the chart; readings and figures nothing at all; no call so far changes N
+  -- the buffer keeps its length, and "bytes past the length that a call leaves [..] keep what they held before it"
+  pub keeps : (a : Operation) (st : State) → let b' = outcome a st .leaves .chart in
+      (length b' ≡ length (st .chart)) × (drop (chartLength b') b' ≡ drop (chartLength b') (st .chart))
+  -- opening writes nothing to the chart; readings and figures nothing at all; N changes by insertions and removals only
   pub opening-reads : (st : State) → openLeaves st .chart ≡ st .chart
   pub record-reads : (k : ℕ) (st : State) → outcome (readRecord k) st .leaves ≡ st
   pub values-reads : (k : ℕ) (st : State) → outcome (readValues k) st .leaves ≡ st
   pub figure-reads : (f : Figure) (l : Lengths) (st : State) → outcome (figure f l) st .leaves ≡ st
-  pub counts : (a : Operation) (st : State) → count (outcome a st .leaves .chart) ≡ count (st .chart)
+  pub counts : (a : Operation) (st : State) → verdictIn a st ≡ Accepted → count (execute a st .leaves .chart) ≡ countAfter a (count (st .chart))
   -- a replacement at place k, accepted or refused, in any state and whatever tables it borrows
   pub frame : (k : ℕ) (o : List ℕ) (t u : Borrowed) (st : State) → Frame k st (perform (record { operation = replace k o; records = t; values = u }) st .1)
   -- the same in such a list: the tables are fresh before and after it
@@ -257,6 +319,9 @@ pub record Claims : Type 0 where
       Throughout perform Admissible (cs ++ (c ∷ ds)) (opened st₀)
       → let x = after perform cs (opened st₀) in let y = after perform (cs ++ (c ∷ [])) (opened st₀) in
       Frame k x y × Fresh (settingsIn x) x × Fresh (settingsIn y) y
+  -- an insertion or a removal at place k that is carried out, in any state
+  pub insert-moves : (k : ℕ) (o : List ℕ) (st : State) → verdictIn (insert k o) st ≡ Accepted → Moved k st (execute (insert k o) st .leaves)
+  pub remove-moves : (k : ℕ) (st : State) → verdictIn (remove k) st ≡ Accepted → Moved k (execute (remove k) st .leaves) st
   -- charts that are alike about j have the same values at j, worked out afresh and in the tables that opening them left
   pub alike : (j : ℕ) (b b' : List ℕ) → Alike j b b' → freshValues (settingsOf b) b j ≡ freshValues (settingsOf b') b' j
   pub alike-opened : (j : ℕ) (st st' : State) → openAnswer st ≡ Accepted → openAnswer st' ≡ Accepted → Alike j (st .chart) (st' .chart)
@@ -264,6 +329,8 @@ pub record Claims : Type 0 where
   -- the place that a refusal returns, and that it is small; number and place tell which refusal it is
   pub opening-placed : (r v : ℕ) (b : List ℕ) (q : Refusal) → opening r v b ≡ Refused q → Placed b q
   pub replace-placed : (k : ℕ) (o : List ℕ) (r v : ℕ) (b : List ℕ) (q : Refusal) → refusal (replace k o) r v b ≡ Refused q → ReplacePlaced k o r v b q
+  pub insert-placed : (k : ℕ) (o : List ℕ) (r v : ℕ) (b : List ℕ) (q : Refusal) → refusal (insert k o) r v b ≡ Refused q → InsertPlaced k o r v b q
+  pub remove-placed : (k r v : ℕ) (b : List ℕ) (q : Refusal) → refusal (remove k) r v b ≡ Refused q → RemovePlaced k r v b q
   pub record-placed : (k r v : ℕ) (b : List ℕ) (q : Refusal) → refusal (readRecord k) r v b ≡ Refused q → refusalPlace q ≡ 0
   pub values-placed : (k r v : ℕ) (b : List ℕ) (q : Refusal) → refusal (readValues k) r v b ≡ Refused q → refusalPlace q ≡ 0
   pub figure-placed : (f : Figure) (l : Lengths) (r v : ℕ) (b : List ℕ) (q : Refusal) → refusal (figure f l) r v b ≡ Refused q → Placed b q

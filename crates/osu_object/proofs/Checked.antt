@@ -11,7 +11,7 @@ use native.Mathlib.Omega.{arith}
 use borrow.Author.Tests.{leb-true, eqb-true, eq-eqb, not-false}
 use Rattle.chart_fields.specs.Search.{firstBelow}
 use Rattle.num_floats.specs.Numbers.{f64}
-use Rattle.chart_fields.specs.Objects.{Holds, fieldsOf, timeOk, coordinateOk, stackOk, countOk, sliderOk, kindOk, fieldsOk, badFields}
+use Rattle.chart_fields.specs.Objects.{Holds, fieldsOf, timeOk, coordinateOk, stackOk, countOk, plainOk, sliderOk, kindOk, fieldsOk, badFields}
 use Rattle.chart_fields.specs.declared.Fields.{Fields}
 use Rattle.chart_fields.specs.declared.Layout.{Layout}
 use Rattle.chart_entries.specs.Entries.{nestedBad, runsOk, badEntries}
@@ -56,9 +56,10 @@ unfolding fieldsOk
 fields-kind f e =
     both (timeOk (f .start) && timeOk (f .end) && coordinateOk (f .x) && coordinateOk (f .y) && stackOk (f .«stack_x») && stackOk (f .«stack_y»)) (kindOk f) e .1
 
-record Within (lay : Layout) (f : Fields) : Type 0 where
-  nested : f .«first_nested» + f .«nested_count» ≤ lay .nested
-  points : f .«first_point» + f .«point_count» ≤ lay .points
+-- an object's entries lie in the tables
+pub record Within (lay : Layout) (f : Fields) : Type 0 where
+  pub nested : f .«first_nested» + f .«nested_count» ≤ lay .nested
+  pub points : f .«first_point» + f .«point_count» ≤ lay .points
 
 runs-within : (s : List ℕ) (lay : Layout) (f : Fields) → runsOk s lay f ≡ true → Within lay f
 unfolding runsOk
@@ -81,6 +82,44 @@ entries-runs s lay i k e = second (eqb (fieldsOf s lay i .kind) 1) (runsOk s lay
 fields-good : (s : List ℕ) (lay : Layout) (i : ℕ) → badFields s lay i ≡ false → fieldsOk (fieldsOf s lay i) ≡ true
 unfolding badFields
 fields-good s lay i e = not-false _ e
+
+-- no kind but a slider has entries
+not-slider : (a b c p q s : Bool) → (a && b && p || false && s || c && q && p) ≡ true → p ≡ true
+not-slider a b c true q s e = refl
+not-slider true true true false true s e = e
+not-slider true true true false false s e = e
+not-slider true true false false q s e = e
+not-slider true false true false true s e = e
+not-slider true false true false false s e = e
+not-slider true false false false q s e = e
+not-slider false b true false true s e = e
+not-slider false b true false false s e = e
+not-slider false b false false q s e = e
+
+plain-within : (lay : Layout) (f : Fields) → plainOk f ≡ true → Within lay f
+plain-within lay f e =
+    let (d, pc) = both (eqb (f .spans) 0 && eqb (f .«first_nested») 0 && eqb (f .«nested_count») 0 && eqb (f .«first_point») 0) (eqb (f .«point_count») 0) e in
+    let (c, fp) = both (eqb (f .spans) 0 && eqb (f .«first_nested») 0 && eqb (f .«nested_count») 0) (eqb (f .«first_point») 0) d in
+    let (b, nc) = both (eqb (f .spans) 0 && eqb (f .«first_nested») 0) (eqb (f .«nested_count») 0) c in
+    let (_, fn) = both (eqb (f .spans) 0) (eqb (f .«first_nested») 0) b in
+    let zn : f .«first_nested» ≡ 0 = eqb-true _ _ fn in
+    let zc : f .«nested_count» ≡ 0 = eqb-true _ _ nc in
+    let zp : f .«first_point» ≡ 0 = eqb-true _ _ fp in
+    let zd : f .«point_count» ≡ 0 = eqb-true _ _ pc in
+    record { nested = omega (arith, zn, zc); points = omega (arith, zp, zd) }
+
+other-within : (lay : Layout) (f : Fields) → eqb (f .kind) 1 ≡ false → kindOk f ≡ true → Within lay f
+other-within lay f k e =
+    plain-within lay f
+    (not-slider (eqb (f .kind) 0) (Ieee.eq (f .end) (f .start)) (eqb (f .kind) 2) (plainOk f) (Ieee.le (f .start) (f .end)) (sliderOk f) (rw k at e))
+
+-- where conditions 3 and 4 do not hold of an object
+pub entries-within : (s : List ℕ) (lay : Layout) (i : ℕ) → badFields s lay i ≡ false → badEntries s lay i ≡ false → Within lay (fieldsOf s lay i)
+entries-within s lay i three four = go (eqb (fieldsOf s lay i .kind) 1) refl
+  where
+    go : (t : Bool) → eqb (fieldsOf s lay i .kind) 1 ≡ t → Within lay (fieldsOf s lay i)
+    go true k = runs-within s lay (fieldsOf s lay i) (entries-runs s lay i (eqb-true _ _ k) four)
+    go false k = other-within lay (fieldsOf s lay i) k (fields-kind (fieldsOf s lay i) (fields-good s lay i three))
 
 slides-of : (s : List ℕ) (lay : Layout) (f : Fields) → Holds s lay → Counts f → Within lay f → Slides s lay (runsOf f)
 unfolding runsOf
