@@ -1,19 +1,22 @@
-/* Chart difficulty for an editing station: five calls on a chart and its two tables.
+/* Chart difficulty for an editing station: seven calls on a chart and its two tables.
  *
  * Lent by the caller, kept by the caller: no call allocates, keeps a pointer after it has returned, prints, or stops the program.
- *   chart    the chart in bytes (docs/FORMAT.md); N is its count of objects
+ *   chart    a buffer whose first bytes are the chart (docs/FORMAT.md), as many as the chart's own length field says; N is its count of objects.
+ *            chart_length is the length of the buffer, which may be longer: objects are put in where it has room. Bytes behind the chart are not read
  *   records  the table of records, DIFFICULTY_RECORD numbers an entry: at least 16 * N numbers
  *   values   the table of values, DIFFICULTY_VALUES numbers an entry: at least 5 * N numbers
  *   scratch  four slices of at least DIFFICULTY_SCRATCH numbers, for the totals
  *   out      room for the numbers that a call answers
- * Entry j of a table belongs to place j, from 1 to N - 1. Entry 0 and entries from N on are never written.
+ * Entry j of a table belongs to place j, from 1 to N - 1. Entry 0 and entries from N on, as N is after the call, are never written; nor are bytes of the
+ * buffer behind the length that the chart has after the call.
  *
  * Every call answers 0 where it is carried out. Else it answers the refusal's number times 2^32 plus its place, and changes nothing:
  * chart, tables, scratch and out stay as they were. The first of these that is met is answered:
- *   1 no chart of this length by its header, or a reserved bit    5 an object that starts before the one before it
- *   2 a setting outside its range                                 6 the chart is too long in time
- *   3 an object's own fields wrong                                7 a table, scratch or out is too short
- *   4 a slider's nested entries or points wrong                   8 no such place
+ *   1 header wrong, or a length field above the buffer's length   6 the chart is too long in time
+ *   2 a setting outside its range                                 7 a table, scratch or out is too short
+ *   3 an object's own fields wrong                                8 no such place
+ *   4 a slider's nested entries or points wrong                   9 no room for another object: the buffer has fewer than 56 bytes behind the
+ *   5 an object that starts before the one before it                chart, or N is 16,384
  * 3, 4 and 5 have the lowest offending place, the others place 0.
  *
  * What is proved begins behind this header. Trusted of the caller, as of any caller in C:
@@ -40,13 +43,14 @@ extern "C" {
 
 enum {
     DIFFICULTY_OBJECT = 56,    /* bytes of an object in the chart */
+    DIFFICULTY_MOST = 16384,   /* objects of a chart at most */
     DIFFICULTY_RECORD = 16,    /* numbers of a record */
     DIFFICULTY_VALUES = 5,     /* values of a place */
     DIFFICULTY_TOTALS = 4,     /* totals of a chart */
     DIFFICULTY_SCRATCH = 8192  /* numbers of scratch for each total */
 };
 
-/* The number (1 to 8) and the place of a refusal; the number of 0 is 0. */
+/* The number (1 to 9) and the place of a refusal; the number of 0 is 0. */
 static inline unsigned difficulty_number(uint64_t answer) { return (unsigned)(answer >> 32); }
 static inline uint32_t difficulty_place(uint64_t answer) { return (uint32_t)answer; }
 
@@ -64,6 +68,29 @@ uint64_t difficulty_replace(uint8_t *chart, size_t chart_length, size_t place,
                             const uint8_t *object, size_t object_length,
                             double *records, size_t records_length,
                             double *values, size_t values_length);
+
+/* Puts an object of DIFFICULTY_OBJECT bytes in before the object at a place, or behind the last for place N: objects from there on, nested entries and points
+ * move up by 56 bytes in the buffer, and count, offsets and length in the header follow. A slider uses nested entries and points that are there already.
+ * Conditions 1 to 6 for the chart as it is, 7 where a table has fewer than N + 1 entries, 8 where the place is above N, 9; an object of another length is 3 at
+ * that place; then 3 to 6 for the chart as it would become, with the places of that chart.
+ * Writes the header's counts, offsets and length and the chart from that object on; in the tables the entries of objects behind it, which move one place up,
+ * records place to place + 2 (to 3 for place 0) and values place - 1 to place + 33, as far as they lie in 1 to N, the places of the new chart.
+ * The tables must be those of this chart, as for difficulty_replace. */
+uint64_t difficulty_insert(uint8_t *chart, size_t chart_length, size_t place,
+                           const uint8_t *object, size_t object_length,
+                           double *records, size_t records_length,
+                           double *values, size_t values_length);
+
+/* Takes the object at a place (0 to N - 1) out: what lies behind it in the chart moves down by 56 bytes, and count, offsets and length follow. The last
+ * 56 bytes of the old chart then lie behind the new one, as they were.
+ * Conditions 1 to 7, 8; 3 to 6 for the chart as it would become are never met.
+ * Writes the header's counts, offsets and length and the chart from that place on; in the tables the entries of objects behind it, which move one place down,
+ * records place to place + 1 (to 2 for place 0) and values place - 1 to place + 32, as far as they lie in 1 to N - 2, the places of the new chart. Entry N - 1
+ * keeps what it held.
+ * The tables must be those of this chart, as for difficulty_replace. */
+uint64_t difficulty_remove(uint8_t *chart, size_t chart_length, size_t place,
+                           double *records, size_t records_length,
+                           double *values, size_t values_length);
 
 /* Writes the record of a place (1 to N - 1) to the first 16 numbers of out.
  * Conditions 1, 7, 8; 7 where out has fewer than 16 numbers, whatever N, or records fewer than N entries. In this order:

@@ -47,6 +47,23 @@ DIFFICULTY_GUARDED difficulty_guarded_replace(uint8_t *chart, size_t chart_lengt
     return difficulty_leave(&host, difficulty_replace(chart, chart_length, place, object, object_length, records, records_length, values, values_length));
 }
 
+DIFFICULTY_GUARDED difficulty_guarded_insert(uint8_t *chart, size_t chart_length, size_t place,
+                                             const uint8_t *object, size_t object_length,
+                                             double *records, size_t records_length,
+                                             double *values, size_t values_length) {
+    fenv_t host;
+    difficulty_enter(&host);
+    return difficulty_leave(&host, difficulty_insert(chart, chart_length, place, object, object_length, records, records_length, values, values_length));
+}
+
+DIFFICULTY_GUARDED difficulty_guarded_remove(uint8_t *chart, size_t chart_length, size_t place,
+                                             double *records, size_t records_length,
+                                             double *values, size_t values_length) {
+    fenv_t host;
+    difficulty_enter(&host);
+    return difficulty_leave(&host, difficulty_remove(chart, chart_length, place, records, records_length, values, values_length));
+}
+
 DIFFICULTY_GUARDED difficulty_guarded_read_record(const uint8_t *chart, size_t chart_length,
                                                   const double *records, size_t records_length, size_t place,
                                                   double *out, size_t out_length) {

@@ -4,7 +4,7 @@ use mathlib.Core.Path.{_≡_, refl, ap, _∙_}
 use mathlib.Core.List.{List, []}
 use lib.Ieee.{Float}
 use lib.ListN.{length}
-use Rattle.num_tables.specs.Parts.{row, fill}
+use Rattle.num_tables.specs.Parts.{row, fill, rowsUp, rowsDown}
 use Rattle.osu_records.specs.Fill.{filled, filledRange}
 use Rattle.osu_records.specs.Rows.{recordAt}
 use Rattle.chart_opening.specs.Header.{layoutOf, settingsOf}
@@ -14,12 +14,13 @@ use Rattle.chart_opening.specs.declared.Refusal.{Refusal}
 use Rattle.chart_opening.specs.declared.Verdict.{Verdict}
 use Rattle.chart_opening.specs.declared.Verdict.the-variants.{Accepted, Refused}
 use Rattle.chart_replacing.specs.Replace.{putObject, replaceVerdict}
+use Rattle.chart_inserting.specs.Insert.{insertObject, removeObject, insertVerdict, removeVerdict}
 use Rattle.eval_values.specs.Values.{valuesIn}
 use Rattle.skills.specs.Chart as Chart
-use Rattle.calls.specs.Tables.{valueWidth, recordEntries, valueEntries, entriesOf}
+use Rattle.calls.specs.Tables.{recordWidth, valueWidth, recordEntries, valueEntries, entriesOf}
 use Rattle.calls.specs.Afresh.{totals, totalsAre, totalsOf, figureOf}
-use Rattle.calls.specs.Conditions.{Scratch, lengths, replace, readRecord, readValues, figure, scratchShort, readVerdict, figureVerdict, opening, refusal}
-use Rattle.calls.specs.Calls.{openStart, openMade, recordsStart, recordsMade, valuesStart, valuesMade, openRecords, openValues, editRecords, editValues, refused, replaced, recordIs, valuesAre, figureIs, Outcome, State, state, result, refuse, opened, openAnswer, openLeaves, edited, execute, verdictIn, outcome, cleared, scratchAfter}
+use Rattle.calls.specs.Conditions.{Scratch, lengths, replace, insert, remove, readRecord, readValues, figure, scratchShort, readVerdict, figureVerdict, opening, refusal}
+use Rattle.calls.specs.Calls.{openStart, openMade, replacedRecords, replacedValues, insertedRecords, insertedValues, removedRecords, removedValues, firstMoved, recordsStart, recordsMade, valuesStart, valuesMade, openRecords, openValues, editRecords, editValues, refused, replaced, inserted, removed, recordIs, valuesAre, figureIs, Outcome, State, state, result, refuse, opened, openAnswer, openLeaves, edited, putIn, takenOut, execute, verdictIn, outcome, cleared, scratchAfter}
 use Rattle.calls.proofs.Alone.{carried-out, refused-as}
 
 -- ---- What the loops leave is what opening and replacing leave
@@ -33,14 +34,14 @@ module _ (s : Settings) (b : List ℕ) where
   unfolding openValues openStart openMade
   values-opened rs vs = refl
 
-  pub records-edited : (k : ℕ) (rs : List Float) → editRecords s b k rs ≡ filledRange b (layoutOf b) s (max 1 k) (min (k + 3) (layoutOf b .n)) rs
+  pub records-edited : (k e : ℕ) (rs : List Float) → editRecords s b k e rs ≡ filledRange b (layoutOf b) s (max 1 k) (min e (layoutOf b .n)) rs
   unfolding editRecords recordsStart recordsMade filledRange
-  records-edited k rs = refl
+  records-edited k e rs = refl
 
-  pub values-edited : (k : ℕ) (rs vs : List Float)
-      → editValues s b k rs vs ≡ fill valueWidth (valuesIn s b (layoutOf b) rs) (max 1 (k - 1)) (min (k + 34) (layoutOf b .n) - max 1 (k - 1)) vs
+  pub values-edited : (k e : ℕ) (rs vs : List Float)
+      → editValues s b k e rs vs ≡ fill valueWidth (valuesIn s b (layoutOf b) rs) (max 1 (k - 1)) (min e (layoutOf b .n) - max 1 (k - 1)) vs
   unfolding editValues valuesStart valuesMade
-  values-edited k rs vs = refl
+  values-edited k e rs vs = refl
 
 -- ---- Opening
 
@@ -68,12 +69,44 @@ module _ (b : List ℕ) (rs vs : List Float) where
     -- what it leaves of the tables, b' being the chart after it
     abbrev brought : List ℕ → Outcome
     brought b' =
-        let rs' = editRecords (settingsOf b') b' k rs in
-        result replaced b' rs' (editValues (settingsOf b') b' k rs' vs)
+        let rs' = editRecords (settingsOf b') b' k (replacedRecords k) rs in
+        result replaced b' rs' (editValues (settingsOf b') b' k (replacedValues k) rs' vs)
 
     pub replace-accepted : replaceVerdict b k o (entriesOf (length rs) (length vs)) ≡ Accepted → outcome (replace k o) (state b rs vs) ≡ brought (putObject k o b)
     unfolding verdictIn refusal execute edited
     replace-accepted e = carried-out (replace k o) (state b rs vs) e
+
+  -- ---- Inserting and removing
+
+  module _ (k : ℕ) (o : List ℕ) where
+    pub insert-refused : (r : Refusal) → insertVerdict b k o (entriesOf (length rs) (length vs)) ≡ Refused r
+        → outcome (insert k o) (state b rs vs) ≡ result (refused r) b rs vs
+    unfolding verdictIn refusal refuse
+    insert-refused r e = refused-as (insert k o) (state b rs vs) r e
+
+    -- what it leaves of the tables, b' being the chart after it
+    abbrev put-in : List ℕ → Outcome
+    put-in b' =
+        let rs' = editRecords (settingsOf b') b' k (insertedRecords k) (rowsUp recordWidth (firstMoved k) (layoutOf b .n) rs) in
+        result inserted b' rs' (editValues (settingsOf b') b' k (insertedValues k) rs' (rowsUp valueWidth (firstMoved k) (layoutOf b .n) vs))
+
+    pub insert-accepted : insertVerdict b k o (entriesOf (length rs) (length vs)) ≡ Accepted → outcome (insert k o) (state b rs vs) ≡ put-in (insertObject k o b)
+    unfolding verdictIn refusal execute putIn
+    insert-accepted e = carried-out (insert k o) (state b rs vs) e
+
+  module _ (k : ℕ) where
+    pub remove-refused : (r : Refusal) → removeVerdict b k (entriesOf (length rs) (length vs)) ≡ Refused r → outcome (remove k) (state b rs vs) ≡ result (refused r) b rs vs
+    unfolding verdictIn refusal refuse
+    remove-refused r e = refused-as (remove k) (state b rs vs) r e
+
+    abbrev taken-out : List ℕ → Outcome
+    taken-out b' =
+        let rs' = editRecords (settingsOf b') b' k (removedRecords k) (rowsDown recordWidth (firstMoved k) (layoutOf b .n) rs) in
+        result removed b' rs' (editValues (settingsOf b') b' k (removedValues k) rs' (rowsDown valueWidth (firstMoved k) (layoutOf b .n) vs))
+
+    pub remove-accepted : removeVerdict b k (entriesOf (length rs) (length vs)) ≡ Accepted → outcome (remove k) (state b rs vs) ≡ taken-out (removeObject k b)
+    unfolding verdictIn refusal execute takenOut
+    remove-accepted e = carried-out (remove k) (state b rs vs) e
 
 -- ---- Readings
 

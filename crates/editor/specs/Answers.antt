@@ -6,7 +6,7 @@ use Rattle.chart_opening.specs.declared.Verdict.the-variants.{Accepted, Refused
 use Rattle.eval_values.specs.Values.{rowOf}
 use Rattle.calls.specs.Afresh.{totalsAre}
 use Rattle.calls.specs.Conditions.{Scratch}
-use Rattle.calls.specs.Calls.{Answer, refused, replaced, recordIs, valuesAre, figureIs}
+use Rattle.calls.specs.Calls.{Answer, refused, replaced, inserted, removed, recordIs, valuesAre, figureIs}
 use Rattle.editor.specs.declared.RecordAnswer.{RecordAnswer}
 use Rattle.editor.specs.declared.RecordAnswer.the-variants as OfRecord
 use Rattle.editor.specs.declared.ValuesAnswer.{ValuesAnswer}
@@ -17,6 +17,14 @@ use Rattle.editor.specs.declared.TotalsAnswer.the-variants as OfTotals
 abbrev pub replaceAnswer : Verdict → Answer
 replaceAnswer Accepted = replaced
 replaceAnswer (Refused r) = refused r
+
+abbrev pub insertAnswer : Verdict → Answer
+insertAnswer Accepted = inserted
+insertAnswer (Refused r) = refused r
+
+abbrev pub removeAnswer : Verdict → Answer
+removeAnswer Accepted = removed
+removeAnswer (Refused r) = refused r
 
 abbrev pub recordAnswer : RecordAnswer → Answer
 recordAnswer (OfRecord.Record x) = recordIs x

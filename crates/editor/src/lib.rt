@@ -2,16 +2,18 @@
 // that is met and changes nothing, or is carried out.
 ghost use mathlib.Core.Path.{_≡_};
 ghost use mathlib.Core.List.{[]};
-ghost use Prim.Native.Nat.{_-_, _<_, min, max};
+ghost use Prim.Native.Nat.{_+_, _-_, _*_, _<_, _≤_, min, max};
 ghost use lib.ListN.{length};
 ghost use Rattle.chart_opening.specs.Header.{layoutOf, settingsOf};
 ghost use Rattle.chart_opening.specs.declared.Verdict.the-variants.{Accepted};
-ghost use Rattle.calls.specs.Tables.{entriesOf};
+ghost use Rattle.calls.specs.Tables.{recordWidth, valueWidth, entriesOf};
 ghost use Rattle.calls.specs.Afresh as figures;
 ghost use Rattle.calls.specs.Conditions as ops;
 ghost use Rattle.calls.specs.Conditions.{lengths, scratchShort, readVerdict, figureVerdict, opening};
+ghost use Rattle.num_tables.specs.Parts.{rowsUp, rowsDown};
 ghost use Rattle.calls.specs.Calls.{state, result, opened, openAnswer, openLeaves, outcome, scratchAfter, editRecords, editValues};
-ghost use Rattle.editor.specs.Answers.{replaceAnswer, recordAnswer, valuesAnswer, totalsAnswer, scratchOf};
+ghost use Rattle.calls.specs.Calls.{insertedRecords, insertedValues, removedRecords, removedValues, firstMoved};
+ghost use Rattle.editor.specs.Answers.{replaceAnswer, insertAnswer, removeAnswer, recordAnswer, valuesAnswer, totalsAnswer, scratchOf};
 use chart_opening::Refusal;
 use chart_opening::Verdict;
 use eval_values::Values;
@@ -100,12 +102,21 @@ pub fn open(chart: &[u8], records: &mut [f64], values: &mut [f64]) -> Verdict
     }
 }
 
-// Makes anew what an object put at a place can have changed: records k to k + 2 from the chart, and values k - 1 to k + 33 from the records.
-fn bring_up_to_date(chart: &[u8], place: usize, records: &mut [f64], values: &mut [f64])
-    requires { ⌜ (opening (length (now records)) (length (now values)) (now chart) ≡ Accepted) × (place < layoutOf (now chart) .n) ⌝ }
-    ensures records { λ _. ⌜ now (records .exit) ≡ editRecords (settingsOf (now (chart .entry))) (now (chart .entry)) place (now (records .entry)) ⌝ }
+// Makes anew what an edit at a place can have changed: the records from that place to before records_end from the chart, and the values from the place before
+// it to before values_end from the records.
+fn bring_up_to_date(
+    chart: &[u8],
+    place: usize,
+    records_end: usize,
+    values_end: usize,
+    records: &mut [f64],
+    values: &mut [f64],
+)
+    requires { ⌜ opening (length (now records)) (length (now values)) (now chart) ≡ Accepted ⌝ }
+    ensures records { λ _. ⌜ now (records .exit)
+        ≡ editRecords (settingsOf (now (chart .entry))) (now (chart .entry)) place «records_end» (now (records .entry)) ⌝ }
     ensures values { λ _. ⌜ now (values .exit)
-        ≡ editValues (settingsOf (now (chart .entry))) (now (chart .entry)) place (now (records .exit)) (now (values .entry)) ⌝ }
+        ≡ editValues (settingsOf (now (chart .entry))) (now (chart .entry)) place «values_end» (now (records .exit)) (now (values .entry)) ⌝ }
 {
     let lay = chart_opening::layout_of(chart);
     let set = chart_opening::settings_at(chart, SETTINGS_AT);
@@ -115,7 +126,7 @@ fn bring_up_to_date(chart: &[u8], place: usize, records: &mut [f64], values: &mu
         lay,
         set,
         from_one(place),
-        smaller(place + 3, n),
+        smaller(records_end, n),
         records,
     );
     let from = from_one(before(place));
@@ -126,7 +137,7 @@ fn bring_up_to_date(chart: &[u8], place: usize, records: &mut [f64], values: &mu
         lay,
         set,
         from,
-        smaller(place + 34, n),
+        smaller(values_end, n),
     );
 }
 
@@ -150,7 +161,148 @@ pub fn replace(
     ) {
         Verdict::Refused(r) => Verdict::Refused(r),
         Verdict::Accepted => {
-            bring_up_to_date(chart, place, records, values);
+            bring_up_to_date(chart, place, place + 3, place + 34, records, values);
+            Verdict::Accepted
+        }
+    }
+}
+
+fn larger(a: usize, b: usize) -> usize
+    ensures { λ r. ⌜ r ≡ max a b ⌝ }
+{
+    if a < b { b } else { a }
+}
+
+// Moves rows from to before to of the record table one place up, with their objects.
+fn records_up(records: &mut [f64], from: usize, to: usize)
+    requires { ⌜ recordWidth * (to + 1) ≤ length (now records) ⌝ }
+    ensures { λ _. ⌜ now (records .exit) ≡ rowsUp recordWidth from to (now (records .entry)) ⌝ }
+{
+    if from < to {
+        num_tables::move_numbers_up(
+            records,
+            RECORD_WIDTH * from,
+            RECORD_WIDTH * (from + 1),
+            RECORD_WIDTH * (to - from),
+        );
+    }
+}
+
+// Moves the rows behind from to before to of the record table one place down.
+fn records_down(records: &mut [f64], from: usize, to: usize)
+    requires { ⌜ (from ≤ to) × (recordWidth * to ≤ length (now records)) ⌝ }
+    ensures { λ _. ⌜ now (records .exit) ≡ rowsDown recordWidth from to (now (records .entry)) ⌝ }
+{
+    let next = from + 1;
+    if next < to {
+        num_tables::move_numbers_down(
+            records,
+            RECORD_WIDTH * next,
+            RECORD_WIDTH * from,
+            RECORD_WIDTH * (to - next),
+        );
+    }
+}
+
+// Moves rows from to before to of the value table one place up, with their objects.
+fn values_up(values: &mut [f64], from: usize, to: usize)
+    requires { ⌜ valueWidth * (to + 1) ≤ length (now values) ⌝ }
+    ensures { λ _. ⌜ now (values .exit) ≡ rowsUp valueWidth from to (now (values .entry)) ⌝ }
+{
+    if from < to {
+        num_tables::move_numbers_up(
+            values,
+            VALUE_WIDTH * from,
+            VALUE_WIDTH * (from + 1),
+            VALUE_WIDTH * (to - from),
+        );
+    }
+}
+
+// Moves the rows behind from to before to of the value table one place down.
+fn values_down(values: &mut [f64], from: usize, to: usize)
+    requires { ⌜ (from ≤ to) × (valueWidth * to ≤ length (now values)) ⌝ }
+    ensures { λ _. ⌜ now (values .exit) ≡ rowsDown valueWidth from to (now (values .entry)) ⌝ }
+{
+    let next = from + 1;
+    if next < to {
+        num_tables::move_numbers_down(
+            values,
+            VALUE_WIDTH * next,
+            VALUE_WIDTH * from,
+            VALUE_WIDTH * (to - next),
+        );
+    }
+}
+
+// Moves the rows of later objects up and makes anew what an object put in at a place can have changed, once the chart has it.
+fn insert_rows(chart: &[u8], place: usize, records: &mut [f64], values: &mut [f64])
+    requires { ⌜ (opening (length (now records)) (length (now values)) (now chart) ≡ Accepted) × (place < layoutOf (now chart) .n) ⌝ }
+    ensures records { λ _. ⌜ now (records .exit) ≡ editRecords (settingsOf (now (chart .entry))) (now (chart .entry)) place (insertedRecords place)
+        (rowsUp recordWidth (firstMoved place) (layoutOf (now (chart .entry)) .n - 1) (now (records .entry))) ⌝ }
+    ensures values { λ _. ⌜ now (values .exit) ≡ editValues (settingsOf (now (chart .entry))) (now (chart .entry)) place (insertedValues place)
+        (now (records .exit)) (rowsUp valueWidth (firstMoved place) (layoutOf (now (chart .entry)) .n - 1) (now (values .entry))) ⌝ }
+{
+    let n = chart_opening::layout_of(chart).n;
+    let from = from_one(place);
+    records_up(records, from, n - 1);
+    values_up(values, from, n - 1);
+    let end = larger(place + 3, 4);
+    bring_up_to_date(chart, place, end, place + 34, records, values);
+}
+
+// Puts an object in before a place of the chart: objects, nested entries and points move up in the buffer, and rows with their objects.
+pub fn insert(
+    chart: &mut [u8],
+    place: usize,
+    object: &[u8],
+    records: &mut [f64],
+    values: &mut [f64],
+) -> Verdict
+    ensures { λ r. ⌜ result (insertAnswer r) (now (chart .exit)) (now (records .exit)) (now (values .exit))
+        ≡ outcome (ops.insert place (now (object .entry))) (state (now (chart .entry)) (now (records .entry)) (now (values .entry))) ⌝ }
+    ensures object { λ _. ⌜ now (object .exit) ≡ now (object .entry) ⌝ }
+{
+    match chart_inserting::insert(
+        chart,
+        place,
+        object,
+        entries_in(records.len(), values.len()),
+    ) {
+        Verdict::Refused(r) => Verdict::Refused(r),
+        Verdict::Accepted => {
+            insert_rows(chart, place, records, values);
+            Verdict::Accepted
+        }
+    }
+}
+
+// Moves the rows of later objects down and makes anew what an object taken out at a place can have changed, once the chart is without it.
+fn remove_rows(chart: &[u8], place: usize, records: &mut [f64], values: &mut [f64])
+    requires { ⌜ (opening (length (now records)) (length (now values)) (now chart) ≡ Accepted) × (place ≤ layoutOf (now chart) .n)
+        × (recordWidth * (layoutOf (now chart) .n + 1) ≤ length (now records)) × (valueWidth * (layoutOf (now chart) .n + 1) ≤ length (now values)) ⌝ }
+    ensures records { λ _. ⌜ now (records .exit) ≡ editRecords (settingsOf (now (chart .entry))) (now (chart .entry)) place (removedRecords place)
+        (rowsDown recordWidth (firstMoved place) (layoutOf (now (chart .entry)) .n + 1) (now (records .entry))) ⌝ }
+    ensures values { λ _. ⌜ now (values .exit) ≡ editValues (settingsOf (now (chart .entry))) (now (chart .entry)) place (removedValues place)
+        (now (records .exit)) (rowsDown valueWidth (firstMoved place) (layoutOf (now (chart .entry)) .n + 1) (now (values .entry))) ⌝ }
+{
+    let n = chart_opening::layout_of(chart).n;
+    let from = from_one(place);
+    records_down(records, from, n + 1);
+    values_down(values, from, n + 1);
+    let end = larger(place + 2, 3);
+    bring_up_to_date(chart, place, end, place + 33, records, values);
+}
+
+// Takes the object at a place out: what lies behind it moves down, and rows with their objects.
+pub fn remove(chart: &mut [u8], place: usize, records: &mut [f64], values: &mut [f64]) -> Verdict
+    ensures { λ r. ⌜ result (removeAnswer r) (now (chart .exit)) (now (records .exit)) (now (values .exit))
+        ≡ outcome (ops.remove place) (state (now (chart .entry)) (now (records .entry)) (now (values .entry))) ⌝ }
+{
+    match chart_inserting::remove(chart, place, entries_in(records.len(), values.len())) {
+        Verdict::Refused(r) => Verdict::Refused(r),
+        Verdict::Accepted => {
+            remove_rows(chart, place, records, values);
             Verdict::Accepted
         }
     }

@@ -12,7 +12,7 @@ use Rattle.num_tables.specs.Parts.{put}
 use Rattle.chart_opening.specs.Conditions.{refusalNumber, ifAccepted, openVerdict}
 use Rattle.chart_opening.specs.Accepted.{refuses}
 use Rattle.chart_opening.specs.declared.Refusal.{Refusal}
-use Rattle.chart_opening.specs.declared.Refusal.the-variants.{Header, Setting, Object, Entries, Order, Length, Table, Place}
+use Rattle.chart_opening.specs.declared.Refusal.the-variants.{Header, Setting, Object, Entries, Order, Length, Table, Place, Room}
 use Rattle.chart_opening.specs.declared.Verdict.{Verdict}
 use Rattle.chart_opening.specs.declared.Verdict.the-variants.{Accepted, Refused}
 use Rattle.skills.specs.declared.Skills.{Skills}
@@ -23,7 +23,7 @@ use Rattle.calls.specs.Calls.{Answer, refused, recordIs, valuesAre, figureIs, O
 use Rattle.calls.proofs.Refusals.{figure-refused, figure-passed}
 use Rattle.station.specs.Codes.{totalsWidth, noRoom, readInto, intoVerdict, totalsInto, scratchInto}
 
-pub number-small : (r : Refusal) → refusalNumber r ≤ 8
+pub number-small : (r : Refusal) → refusalNumber r ≤ 9
 number-small Header = omega arith
 number-small Setting = omega arith
 number-small (Object i) = omega arith
@@ -32,6 +32,7 @@ number-small (Order i) = omega arith
 number-small Length = omega arith
 number-small Table = omega arith
 number-small Place = omega arith
+number-small Room = omega arith
 
 -- nothing is written
 pub put-none : (l : List Float) → l ≡ put 0 [] l

@@ -16,7 +16,7 @@ use Rattle.skills.specs.declared.Skills.{Skills}
 use Rattle.calls.specs.Tables.{valueEntries}
 use Rattle.calls.specs.Afresh.{totals, Amount, totalsAre}
 use Rattle.calls.specs.Conditions.{Scratch, lengths, scratchShort, Operation, figure, figureVerdict}
-use Rattle.calls.specs.Calls.{Answer, refused, replaced, recordIs, valuesAre, figureIs, State, Outcome, refuse, execute, outcome, cleared}
+use Rattle.calls.specs.Calls.{Answer, refused, replaced, inserted, removed, recordIs, valuesAre, figureIs, State, Outcome, refuse, execute, outcome, cleared}
 
 -- 2^32
 abbrev pub placeSpan : ℕ
@@ -35,6 +35,8 @@ verdictCode (Refused r) = codeOf r
 abbrev pub answerCode : Answer → ℕ
 answerCode (refused r) = codeOf r
 answerCode replaced = 0
+answerCode inserted = 0
+answerCode removed = 0
 answerCode (recordIs x) = 0
 answerCode (valuesAre v) = 0
 answerCode (figureIs a) = 0
@@ -53,6 +55,8 @@ amountRow (totalsAre t) = totalsRow t
 abbrev pub numbersOf : Answer → List Float
 numbersOf (refused r) = []
 numbersOf replaced = []
+numbersOf inserted = []
+numbersOf removed = []
 numbersOf (recordIs x) = rowOf x
 numbersOf (valuesAre v) = v
 numbersOf (figureIs a) = amountRow a

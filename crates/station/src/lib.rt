@@ -65,6 +65,46 @@ pub extern "C" fn difficulty_replace(
     }
 }
 
+// Puts an object in before a place of the chart, in a buffer with room for it.
+#[no_mangle]
+pub extern "C" fn difficulty_insert(
+    chart: &mut [u8],
+    place: usize,
+    object: &[u8],
+    records: &mut [f64],
+    values: &mut [f64],
+) -> u64
+    ensures answer { λ r. ⌜ r
+        ≡ answerCode (outcome (ops.insert place (now (object .entry))) (state (now (chart .entry)) (now (records .entry)) (now (values .entry))) .answer) ⌝ }
+    ensures leaves { λ _. ⌜ state (now (chart .exit)) (now (records .exit)) (now (values .exit))
+        ≡ outcome (ops.insert place (now (object .entry))) (state (now (chart .entry)) (now (records .entry)) (now (values .entry))) .leaves ⌝ }
+    ensures object { λ _. ⌜ now (object .exit) ≡ now (object .entry) ⌝ }
+{
+    match editor::insert(chart, place, object, records, values) {
+        Verdict::Refused(r) => code(r),
+        Verdict::Accepted => 0,
+    }
+}
+
+// Takes the object at a place out of the chart.
+#[no_mangle]
+pub extern "C" fn difficulty_remove(
+    chart: &mut [u8],
+    place: usize,
+    records: &mut [f64],
+    values: &mut [f64],
+) -> u64
+    ensures answer { λ r. ⌜ r
+        ≡ answerCode (outcome (ops.remove place) (state (now (chart .entry)) (now (records .entry)) (now (values .entry))) .answer) ⌝ }
+    ensures leaves { λ _. ⌜ state (now (chart .exit)) (now (records .exit)) (now (values .exit))
+        ≡ outcome (ops.remove place) (state (now (chart .entry)) (now (records .entry)) (now (values .entry))) .leaves ⌝ }
+{
+    match editor::remove(chart, place, records, values) {
+        Verdict::Refused(r) => code(r),
+        Verdict::Accepted => 0,
+    }
+}
+
 // Why a reading is refused whose answer has no room.
 fn no_room(chart: &[u8]) -> Refusal
     ensures { λ r. ⌜ r ≡ noRoom (now (chart .entry)) ⌝ }

@@ -15,25 +15,21 @@ use Rattle.editor.proofs.bring_up_to_date.Tie as tie
 
 layout-of-requires : tie.Need-layout-of-requires
 layout-of-requires c κs =
-    fits _ _ _ (c .before .before .before .pre .0) .long
+    fits _ _ _ (c .before .before .before .pre) .long
 
 settings-at-requires : tie.Need-settings-at-requires
 settings-at-requires c κs =
-    fits _ _ _ (c .before .before .before .before .pre .0) .long
+    fits _ _ _ (c .before .before .before .before .pre) .long
 
 from-one-requires : tie.Need-from-one-requires
 from-one-requires c κs = search needs
-
-add-smaller : tie.Need-add-smaller
-add-smaller c =
-    let f = fits _ _ _ (c .before .before .before .before .before .before .pre .0) in omega (arith, f .few, c .before .before .before .before .before .before .pre .1)
 
 smaller-requires : tie.Need-smaller-requires
 smaller-requires c κs = search needs
 
 fill-range-requires : tie.Need-fill-range-requires
 fill-range-requires c κs =
-    let f = fits _ _ _ (c .before .before .before .before .before .before .before .before .pre .0) in
+    let f = fits _ _ _ (c .before .before .before .before .before .before .before .before .pre) in
     let l = ap (λ (x : Layout). x .n) (c .before .before .before .before .layout-of .ensures) in
     (rw (c .before .before .before .before .layout-of .ensures) (f .ready), omega (arith, c .before .before .from-one .ensures), omega (arith, c .before .smaller .ensures), omega (arith, c .before .smaller .ensures, f .records, l))
 
@@ -43,16 +39,12 @@ before-requires c κs = search needs
 from-one-requires-2 : tie.Need-from-one-requires-2
 from-one-requires-2 c κs = search needs
 
-add-smaller-2 : tie.Need-add-smaller-2
-add-smaller-2 c =
-    let f = fits _ _ _ (c .before .before .before .before .before .before .before .before .before .before .before .before .before .before .before .pre .0) in omega (arith, f .few, c .before .before .before .before .before .before .before .before .before .before .before .before .before .before .before .pre .1)
-
 smaller-requires-2 : tie.Need-smaller-requires-2
 smaller-requires-2 c κs = search needs
 
 fill-values-requires : tie.Need-fill-values-requires
 fill-values-requires c κs =
-    let f = fits _ _ _ (c .before .before .before .before .before .before .before .before .before .before .before .before .before .before .before .before .pre .0) in
+    let f = fits _ _ _ (c .before .before .before .before .before .before .before .before .before .before .before .before .before .before .before .before .pre) in
     let l = ap (λ (x : Layout). x .n) (c .before .before .before .before .before .before .before .before .before .before .before .before .layout-of .ensures) in
     (rw (c .before .before .before .before .before .before .before .before .before .before .before .before .layout-of .ensures) (f .ready), omega (arith, c .before .before .before .from-one2 .ensures), omega (arith, c .smaller2 .ensures), omega (arith, f .records, l), omega (arith, f .values, l))
 
@@ -70,12 +62,12 @@ returns c =
     let l = c .before .before .before .before .before .before .before .before .before .before .before .before .before .before .before .layout-of .ensures in
     let s = c .before .before .before .before .before .before .before .before .before .before .before .before .before .before .settings-at .ensures in
     let from = c .before .before .before .before .before .before .from-one2 .ensures ∙ ap (max 1) (c .before .before .before .before .before .before .before .before2 .ensures) in
-    let to = c .before .before .before .before .before .before .before .before .before .before .before .before .smaller .ensures ∙ ap (λ (x : Layout). min (k + 3) (x .n)) l in
-    let to2 = c .before .before .before .smaller2 .ensures ∙ ap (λ (x : Layout). min (k + 34) (x .n)) l in (
+    let to = c .before .before .before .before .before .before .before .before .before .before .before .before .smaller .ensures ∙ ap (λ (x : Layout). min (a .records-end) (x .n)) l in
+    let to2 = c .before .before .before .smaller2 .ensures ∙ ap (λ (x : Layout). min (a .values-end) (x .n)) l in (
       c .before .before .before .before .before .before .before .before .before .before .fill-range .ensures
-          ∙ ((λ i. filledRange b (l i) (s i) (c .before .before .before .before .before .before .before .before .before .before .before .before .before .from-one .ensures i) (to i) (a .records .now)) ∙ sym (records-edited (settingsOf b) b k (a .records .now))),
+          ∙ ((λ i. filledRange b (l i) (s i) (c .before .before .before .before .before .before .before .before .before .before .before .before .before .from-one .ensures i) (to i) (a .records .now)) ∙ sym (records-edited (settingsOf b) b k (a .records-end) (a .records .now))),
       c .before .before .fill-values .ensures
-          ∙ ((λ i. fill 5 (valuesIn (s i) b (l i) (c .before .before .before .before .before .before .before .before .before .before .fill-range .last .1 .1 .1 .1 .1 .0)) (from i) (to2 i - from i) (a .values .now)) ∙ sym (values-edited (settingsOf b) b k (c .before .before .before .before .before .before .before .before .before .before .fill-range .last .1 .1 .1 .1 .1 .0) (a .values .now))),
+          ∙ ((λ i. fill 5 (valuesIn (s i) b (l i) (c .before .before .before .before .before .before .before .before .before .before .fill-range .last .1 .1 .1 .1 .1 .0)) (from i) (to2 i - from i) (a .values .now)) ∙ sym (values-edited (settingsOf b) b k (a .values-end) (c .before .before .before .before .before .before .before .before .before .before .fill-range .last .1 .1 .1 .1 .1 .0) (a .values .now))),
     )
 
 pub bring-up-to-date-spec : {M : Type 1} → statement M
@@ -85,12 +77,10 @@ bring-up-to-date-spec =
     layout-of-requires
     settings-at-requires
     from-one-requires
-    add-smaller
     smaller-requires
     fill-range-requires
     before-requires
     from-one-requires-2
-    add-smaller-2
     smaller-requires-2
     fill-values-requires
     same-length
