@@ -1,4 +1,5 @@
-//! Microseconds of each call on charts of several sizes, lower quartile of the runs. Where a folder with the oracle's programs is named as the argument, their
+//! Microseconds of each call on charts of several sizes, lower quartile of the runs. Insertions and removals stand beside what it takes to move as many bytes of
+//! the chart and rows of the tables by the standard library's functions. Where a folder with the oracle's programs is named as the argument, their
 //! times on the same charts stand beside: `source` works out the records and the four skills' totals, as opening and totals do. The oracle's are
 //! the best of its runs by the wall's clock: on a busy machine they are too high for the large charts.
 mod charts;
@@ -6,7 +7,7 @@ mod clock;
 #[path = "../clients/station.rs"]
 mod station;
 use charts::{chart, put};
-use clock::quartile;
+use clock::{quartile, quartiles, timed};
 use station::{OBJECT, RECORD, SCRATCH, TOTALS, VALUES};
 use std::process::Command;
 
@@ -43,6 +44,24 @@ impl Station {
         station::replace(&mut self.chart, place, &object, &mut self.records, &mut self.values).unwrap();
     }
 
+    /// Takes the object at a place out and puts it in again: microseconds of the insertion and of the removal.
+    fn out_and_in(&mut self, place: usize) -> [f64; 2] {
+        let object = self.chart[80 + OBJECT * place..][..OBJECT].to_vec();
+        let remove = timed(|| station::remove(&mut self.chart, place, &mut self.records, &mut self.values).unwrap());
+        let insert = timed(|| station::insert(&mut self.chart, place, &object, &mut self.records, &mut self.values).unwrap());
+        [insert, remove]
+    }
+
+    /// What an insertion at a place moves, by copies within slices.
+    fn moved(chart: &mut [u8], records: &mut [f64], values: &mut [f64], n: usize, place: usize) {
+        let (at, row) = (80 + OBJECT * place, place.max(1));
+        chart.copy_within(at..chart.len() - OBJECT, at + OBJECT);
+        if row + 1 < n {
+            records.copy_within(RECORD * row..RECORD * (n - 1), RECORD * (row + 1));
+            values.copy_within(VALUES * row..VALUES * (n - 1), VALUES * (row + 1));
+        }
+    }
+
     fn read(&mut self, turn: usize) {
         let place = 1 + turn % (self.n - 1);
         station::read_record(&self.chart, &self.records, place, &mut [0.0; RECORD]).unwrap();
@@ -59,11 +78,25 @@ fn oracle(folder: &str, program: &str, chart: &str) -> f64 {
     seconds.parse::<f64>().unwrap() * 1e6
 }
 
+/// The line of insertions and removals, beside an opening and replacements at the same places.
+fn edits_of(s: &mut Station, open: f64, replace: [f64; 3]) -> String {
+    let n = s.n;
+    let places = [0, n / 2, n - 1];
+    let edits = places.map(|place| quartiles(|_| s.out_and_in(place)));
+    let (mut chart, mut records, mut values) = (s.chart.clone(), s.records.clone(), s.values.clone());
+    let moves = places.map(|place| quartile(|_| Station::moved(&mut chart, &mut records, &mut values, n, place)));
+    let slower = edits.map(|[insert, remove]| insert.max(remove));
+    let over = (0..3).map(|k| slower[k] / (replace[k] + moves[k])).fold(0.0, f64::max);
+    let three = |t: [f64; 3]| t.map(|x| format!("{x:>8.1}")).join(", ");
+    let slowest = slower.into_iter().fold(0.0, f64::max);
+    format!("{n:>6} {} {} {} {over:>10.2} {:>9.1}", three(edits.map(|e| e[0])), three(edits.map(|e| e[1])), three(moves), open / slowest)
+}
+
 fn main() {
     let folder = std::env::args().nth(1);
     println!("microseconds of processor time, lower quartile of the runs");
     println!("{:>6} {:>10} {:>8} {:>10} {:>10} {:>10} {:>9} {:>8} {:>8}", "N", "open", "per N", "replace 0", "at N/2", "at N-1", "readings", "totals", "open/rep");
-    let mut both = vec![];
+    let (mut both, mut edits) = (vec![], vec![]);
     for n in SIZES {
         let mut s = Station::new(n);
         let open = quartile(|_| s.open());
@@ -75,8 +108,12 @@ fn main() {
             "{n:>6} {open:>10.1} {:>8.3} {:>10.1} {:>10.1} {:>10.1} {read:>9.3} {totals:>8.1} {:>8.1}",
             open / n as f64, replace[0], replace[1], replace[2], open / slowest
         );
+        edits.push(edits_of(&mut s, open, replace));
         both.push((s, open + totals));
     }
+    println!("each at 0, N/2 and N-1; an edit over a replacement at its place and the moves: the largest");
+    println!("{:>6} {:>28} {:>28} {:>28} {:>10} {:>9}", "N", "insert", "remove", "moves", "over", "open/edit");
+    edits.iter().for_each(|line| println!("{line}"));
     let Some(folder) = folder else {
         println!("no folder with the oracle's programs was named: no comparison");
         return;

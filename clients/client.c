@@ -1,4 +1,4 @@
-/* Opens a chart, drags one of its objects a thousand times, and prints what a station would show. client.rs does the same.
+/* Opens a chart, drags one of its objects a thousand times, puts one in and takes two out, and prints what a station would show. client.rs does the same.
  * Every call is guarded: it gives the same bits whatever rounding, flushing or traps a host has set. */
 #include <inttypes.h>
 #include <stdio.h>
@@ -20,15 +20,17 @@ static void *claim(size_t count, size_t size) {
     return p;
 }
 
+/* The file, in a buffer with room for one object more. */
 static uint8_t *read_file(const char *name, size_t *length) {
     FILE *f = fopen(name, "rb");
     if (!f) { perror(name); exit(1); }
     fseek(f, 0, SEEK_END);
     *length = (size_t)ftell(f);
     rewind(f);
-    uint8_t *bytes = claim(*length, 1);
+    uint8_t *bytes = claim(*length + DIFFICULTY_OBJECT, 1);
     if (fread(bytes, 1, *length, f) != *length) { perror(name); exit(1); }
     fclose(f);
+    *length += DIFFICULTY_OBJECT;
     return bytes;
 }
 
@@ -51,6 +53,14 @@ static uint64_t replace(struct station *s, size_t place, const uint8_t *object, 
     return difficulty_guarded_replace(s->chart, s->length, place, object, length, s->records, s->records_length, s->values, s->values_length);
 }
 
+static uint64_t insert(struct station *s, size_t place, const uint8_t *object) {
+    return difficulty_guarded_insert(s->chart, s->length, place, object, DIFFICULTY_OBJECT, s->records, s->records_length, s->values, s->values_length);
+}
+
+static uint64_t take_out(struct station *s, size_t place) {
+    return difficulty_guarded_remove(s->chart, s->length, place, s->records, s->records_length, s->values, s->values_length);
+}
+
 static void show(struct station *s, size_t place) {
     double out[DIFFICULTY_RECORD];
     if (difficulty_guarded_read_values(s->chart, s->length, s->values, s->values_length, place, out, DIFFICULTY_VALUES) == 0)
@@ -68,7 +78,7 @@ static void show(struct station *s, size_t place) {
  * twenty-third is cut short (3 at its place). */
 static void drag(struct station *s, size_t place) {
     uint8_t object[DIFFICULTY_OBJECT];
-    unsigned answers[9] = {0};
+    unsigned answers[10] = {0};
     memcpy(object, s->chart + 80 + DIFFICULTY_OBJECT * place, DIFFICULTY_OBJECT);
     for (int step = 0; step < 1000; step++) {
         float x = step % 10 == 9 ? 200000.0f : 100.0f + (float)(step % 40 < 20 ? step % 20 : 20 - step % 20);
@@ -77,9 +87,23 @@ static void drag(struct station *s, size_t place) {
         answers[difficulty_number(answer)]++;
         if (step % 250 == 0) show(s, place);
     }
-    for (unsigned n = 0; n < 9; n++)
+    for (unsigned n = 0; n < 10; n++)
         if (answers[n] && n) printf("refused %u: %u times\n", n, answers[n]);
         else if (answers[n]) printf("carried out: %u times\n", answers[n]);
+}
+
+/* Puts a copy of the object in before it; a second finds no room for another (9). Then the first object of the chart goes out, the copy, and one past the last (8). */
+static void put_in_and_take_out(struct station *s, size_t place) {
+    uint8_t object[DIFFICULTY_OBJECT];
+    memcpy(object, s->chart + 80 + DIFFICULTY_OBJECT * place, DIFFICULTY_OBJECT);
+    print_answer("insertion", insert(s, place, object));
+    show(s, place);
+    print_answer("insertion", insert(s, place, object));
+    print_answer("removal", take_out(s, 0));
+    show(s, place);
+    print_answer("removal", take_out(s, place - 1));
+    print_answer("removal", take_out(s, s->objects - 1));
+    show(s, place - 1);
 }
 
 int main(int count, char **arguments) {
@@ -88,9 +112,9 @@ int main(int count, char **arguments) {
     s.chart = read_file(arguments[1], &s.length);
     uint32_t n = 0;
     if (s.length >= 4) n = s.chart[0] | (uint32_t)s.chart[1] << 8 | (uint32_t)s.chart[2] << 16 | (uint32_t)s.chart[3] << 24;
-    s.objects = n <= 16384 ? n : 0;
-    s.records_length = DIFFICULTY_RECORD * s.objects;
-    s.values_length = DIFFICULTY_VALUES * s.objects;
+    s.objects = n <= DIFFICULTY_MOST ? n : 0;
+    s.records_length = DIFFICULTY_RECORD * (s.objects + 2);
+    s.values_length = DIFFICULTY_VALUES * (s.objects + 2);
     s.records = claim(s.records_length, sizeof(double));
     s.values = claim(s.values_length, sizeof(double));
     for (int i = 0; i < 4; i++) s.scratch[i] = claim(DIFFICULTY_SCRATCH, sizeof(double));
@@ -101,6 +125,7 @@ int main(int count, char **arguments) {
         show(&s, s.objects / 2);
         drag(&s, s.objects / 2);
         show(&s, s.objects / 2);
+        put_in_and_take_out(&s, s.objects / 2);
     }
     for (int i = 0; i < 4; i++) free(s.scratch[i]);
     free(s.values);

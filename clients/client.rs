@@ -1,7 +1,7 @@
-//! Opens a chart, drags one of its objects a thousand times, and prints what a station would show. client.c does the same.
+//! Opens a chart, drags one of its objects a thousand times, puts one in and takes two out, and prints what a station would show. client.c does the same.
 //! Every call is guarded: it gives the same bits whatever rounding, flushing or traps a host has set.
 mod station;
-use station::{guarded, Answer, OBJECT, RECORD, SCRATCH, TOTALS, VALUES};
+use station::{guarded, Answer, MOST, OBJECT, RECORD, SCRATCH, TOTALS, VALUES};
 
 struct Station {
     chart: Vec<u8>,
@@ -47,7 +47,7 @@ impl Station {
     fn drag(&mut self, place: usize) {
         let at = 80 + OBJECT * place;
         let mut object = self.chart[at..at + OBJECT].to_vec();
-        let mut answers = [0; 9];
+        let mut answers = [0; 10];
         for step in 0..1000usize {
             let to_and_fro = if step % 40 < 20 { step % 20 } else { 20 - step % 20 };
             let x = if step % 10 == 9 { 200000.0 } else { 100.0 + to_and_fro as f32 };
@@ -64,17 +64,40 @@ impl Station {
             println!("{}: {times} times", if n > 0 { format!("refused {n}") } else { "carried out".to_string() });
         }
     }
+
+    fn insert(&mut self, place: usize, object: &[u8]) {
+        print_answer("insertion", guarded(|| station::insert(&mut self.chart, place, object, &mut self.records, &mut self.values)));
+    }
+
+    fn take_out(&mut self, place: usize) {
+        print_answer("removal", guarded(|| station::remove(&mut self.chart, place, &mut self.records, &mut self.values)));
+    }
+
+    /// Puts a copy of the object in before it; a second finds no room for another (9). Then the first object of the chart goes out, the copy, and one past the last (8).
+    fn put_in_and_take_out(&mut self, place: usize) {
+        let at = 80 + OBJECT * place;
+        let object = self.chart[at..at + OBJECT].to_vec();
+        self.insert(place, &object);
+        self.show(place);
+        self.insert(place, &object);
+        self.take_out(0);
+        self.show(place);
+        self.take_out(place - 1);
+        self.take_out(self.objects - 1);
+        self.show(place - 1);
+    }
 }
 
 fn main() {
     let name = std::env::args().nth(1).expect("usage: client CHART");
-    let chart = std::fs::read(name).expect("the chart can be read");
+    let mut chart = std::fs::read(name).expect("the chart can be read");
+    chart.resize(chart.len() + OBJECT, 0); // a buffer with room for one object more
     let n = chart.get(..4).map_or(0, |b| u32::from_le_bytes(b.try_into().unwrap()) as usize);
-    let objects = if n <= 16384 { n } else { 0 };
+    let objects = if n <= MOST { n } else { 0 };
     let mut s = Station {
         chart,
-        records: vec![0.0; RECORD * objects],
-        values: vec![0.0; VALUES * objects],
+        records: vec![0.0; RECORD * (objects + 2)],
+        values: vec![0.0; VALUES * (objects + 2)],
         scratch: std::array::from_fn(|_| vec![0.0; SCRATCH]),
         objects,
     };
@@ -85,5 +108,6 @@ fn main() {
         s.show(objects / 2);
         s.drag(objects / 2);
         s.show(objects / 2);
+        s.put_in_and_take_out(objects / 2);
     }
 }

@@ -1,8 +1,9 @@
-//! Throws random charts, short tables and wild places at every call, and checks after each what holds of every answer:
+//! Throws random charts, short tables and wild places at every call, and checks after each what holds of every answer; then edits a chart of 16,384 objects:
 //!     fuzz SEED CALLS [FOLDER]
 //! With a folder, the charts, the calls and the answers are written there, for tools/fuzz_compare.py.
 mod station;
 use station::{Answer, Refusal, OBJECT, RECORD, SCRATCH, TOTALS, VALUES};
+use std::cmp::{max, min};
 use std::fmt::Write;
 
 const HEADER: usize = 80;
@@ -59,21 +60,29 @@ fn object(r: &mut Random, place: usize, time: f64) -> Vec<u8> {
     o
 }
 
+/// A chart of n objects of no bytes, and as many nested entries and points.
+fn empty(n: usize, entries: usize, settings: [f64; 5], flags: u32) -> Vec<u8> {
+    let (nested_at, points_at) = (HEADER + OBJECT * n, HEADER + OBJECT * n + 24 * entries);
+    let end = points_at + 16 * entries;
+    let mut s = vec![0; end];
+    for (k, v) in [n, entries, entries, HEADER, nested_at, points_at, end].into_iter().enumerate() {
+        put(&mut s, 4 * k, &(v as u32).to_le_bytes());
+    }
+    for (k, v) in settings.into_iter().enumerate() {
+        put(&mut s, 32 + 8 * k, &v.to_le_bytes());
+    }
+    put(&mut s, 72, &1.25f32.to_le_bytes());
+    put(&mut s, 76, &flags.to_le_bytes());
+    s
+}
+
 /// A chart that opens.
 fn chart(r: &mut Random) -> Vec<u8> {
     let most = [3, 12, 12, MOST][r.below(4)];
     let n = r.below(most);
     let (nested_at, points_at) = (HEADER + OBJECT * n, HEADER + (OBJECT + 48) * n);
-    let end = points_at + 32 * n;
-    let mut s = vec![0; end];
-    for (k, v) in [n, 2 * n, 2 * n, HEADER, nested_at, points_at, end].into_iter().enumerate() {
-        put(&mut s, 4 * k, &(v as u32).to_le_bytes());
-    }
-    for (k, v) in [[1.0, 1.5, 0.75][r.below(3)], 40.0, 50.0, 600.0, 400.0f64].into_iter().enumerate() {
-        put(&mut s, 32 + 8 * k, &v.to_le_bytes());
-    }
-    put(&mut s, 72, &1.25f32.to_le_bytes());
-    put(&mut s, 76, &(r.below(4) as u32).to_le_bytes());
+    let clock = [1.0, 1.5, 0.75][r.below(3)];
+    let mut s = empty(n, 2 * n, [clock, 40.0, 50.0, 600.0, 400.0], r.below(4) as u32);
     let mut time = 1000.0f64;
     for j in 0..n {
         let o = object(r, j, time);
@@ -90,6 +99,35 @@ fn chart(r: &mut Random) -> Vec<u8> {
         time += [0.0, 30.0, 90.0, 120.0, 180.0, 700.0][r.below(6)];
     }
     s
+}
+
+/// What an edit can have made anew in the records and in the values, from row to before row.
+struct Windows {
+    records: (usize, usize),
+    values: (usize, usize),
+}
+
+impl Windows {
+    fn new(place: usize, records_end: usize, values_end: usize) -> Self {
+        Windows { records: (max(place, 1), records_end), values: (max(place, 2) - 1, values_end) }
+    }
+}
+
+/// The buffer with an object put in at a place, or the object there taken out; the bytes behind the chart's new end are as they were.
+fn edited(buffer: &[u8], place: usize, object: Option<&[u8]>) -> Vec<u8> {
+    let word = |at: usize| u32::from_le_bytes(buffer[at..at + 4].try_into().unwrap());
+    let (at, end) = (HEADER + OBJECT * place, word(24) as usize);
+    let mut new = buffer[..at].to_vec();
+    match object {
+        Some(object) => new.extend([object, &buffer[at..end]].concat()),
+        None => new.extend(&buffer[at + OBJECT..end]),
+    }
+    for (k, by) in [(0, 1), (16, OBJECT as u32), (20, OBJECT as u32), (24, OBJECT as u32)] {
+        let other = if object.is_some() { word(k) + by } else { word(k) - by };
+        put(&mut new, k, &other.to_le_bytes());
+    }
+    new.extend(&buffer[new.len()..]);
+    new
 }
 
 /// One piece of damage; none changes the length of the chart.
@@ -109,7 +147,7 @@ fn damage(r: &mut Random, s: &mut [u8]) -> (usize, Vec<u8>) {
     (at, field)
 }
 
-/// A chart for a round: sound, damaged, cut, lengthened, or noise.
+/// A buffer for a round: a chart that is sound, damaged, cut, lengthened, or noise, and room behind it or none.
 fn any_chart(r: &mut Random) -> Vec<u8> {
     let mut s = chart(r);
     match r.below(10) {
@@ -119,6 +157,8 @@ fn any_chart(r: &mut Random) -> Vec<u8> {
         _ if r.one_in(2) => s.resize(r.below(s.len() + 40), 7),
         _ => s = (0..r.below(400)).map(|_| r.word() as u8).collect(),
     }
+    let behind = [0, 0, 1, 55, 56, 57, 112, 280][r.below(8)];
+    s.extend((0..behind).map(|_| r.word() as u8));
     s
 }
 
@@ -148,10 +188,19 @@ fn same_rows(w: usize, a: &[f64], b: &[f64], lo: usize, hi: usize) -> bool {
     same(&a[start..end], &b[start..end])
 }
 
+/// A table after an edit, `old` before it: rows that are not made anew stand as they were, those from `place` to the new N moved by `by`.
+fn moved_rows(w: usize, old: &[f64], new: &[f64], place: usize, n: usize, by: isize, made: (usize, usize)) -> bool {
+    let row = |t: &[f64], j: usize| t[w * j..][..w].to_vec();
+    let first = (max(place, 1) as isize + max(by, 0)) as usize;
+    let from = |j: usize| if j < first { j } else { (j as isize - by) as usize };
+    let kept = (1..n).filter(|j| !(made.0..made.1).contains(j)).all(|j| same(&row(old, from(j)), &row(new, j)));
+    kept && same_rows(w, old, new, 0, 1) && same_rows(w, old, new, n, usize::MAX / 64)
+}
+
 #[derive(Default)]
 struct Counts {
-    calls: [u64; 5],
-    refused: [u64; 9],
+    calls: [u64; 7],
+    refused: [u64; 10],
     compared: u64,
 }
 
@@ -168,7 +217,7 @@ struct Round {
 impl Round {
     fn new(r: &mut Random, scratch: [Vec<f64>; 4]) -> Self {
         let chart = any_chart(r);
-        let n = count(&chart).min(MOST) + r.below(3);
+        let n = count(&chart).min(MOST) + r.below(5);
         let records = (0..RECORD * n + r.below(20)).map(|_| r.wild()).collect();
         let values = (0..VALUES * n + r.below(7)).map(|_| r.wild()).collect();
         Round { chart, records, values, scratch, fresh: false, script: String::new(), answers: String::new() }
@@ -215,8 +264,42 @@ impl Round {
         assert!(same_rows(VALUES, &values, &self.values, 1, count(&self.chart)), "values as a fresh opening's");
     }
 
+    /// A round on a chart of as many circles, with room for an object more in buffer and tables.
+    fn of_circles(n: usize, scratch: [Vec<f64>; 4]) -> Self {
+        let mut chart = empty(n, 0, [1.0, 40.0, 50.0, 600.0, 400.0], 0);
+        for j in 0..n {
+            let (time, x) = (100.0 * j as f64, (j * j % 509) as f32);
+            put(&mut chart, HEADER + OBJECT * j, &[time.to_le_bytes(), time.to_le_bytes()].concat());
+            put(&mut chart, HEADER + OBJECT * j + 16, &x.to_le_bytes());
+        }
+        chart.extend([0xA5; OBJECT + 1]);
+        let (records, values) = (vec![7.0; RECORD * (n + 1)], vec![7.0; VALUES * (n + 1)]);
+        Round { chart, records, values, scratch, fresh: false, script: String::new(), answers: String::new() }
+    }
+
+    fn open_whole(&mut self) {
+        writeln!(self.script, "open {} {}", self.records.len() / RECORD, self.values.len() / VALUES).unwrap();
+        let answer = station::open(&self.chart, &mut self.records, &mut self.values);
+        self.fresh = answer.is_ok();
+        self.tell(answer, "opened".into());
+    }
+
+    /// Writes the chart to the folder, and says so in script and answers.
+    fn name(&mut self, folder: &str, number: u64) {
+        let line = format!("file {folder}/{number}.chart\n");
+        std::fs::write(&line[5..line.len() - 1], &self.chart).unwrap();
+        self.script += &line;
+        self.answers += &line;
+    }
+
+    /// The last line of the answers, and both texts.
+    fn told(mut self) -> (String, String) {
+        writeln!(self.answers, "chart {} {:016X}", self.chart.len(), fnv(&self.chart)).unwrap();
+        (self.script, self.answers)
+    }
+
     fn open(&mut self, r: &mut Random) -> Answer {
-        let (rl, vl) = (self.length(r, self.records.len(), RECORD), self.length(r, self.values.len(), VALUES));
+        let (rl, vl) = self.lengths(r);
         writeln!(self.script, "open {} {}", rl / RECORD, vl / VALUES).unwrap();
         let (chart, records, values) = (self.chart.clone(), self.records.clone(), self.values.clone());
         let answer = station::open(&self.chart, &mut self.records[..rl], &mut self.values[..vl]);
@@ -236,7 +319,8 @@ impl Round {
         let n = count(&self.chart).min(MOST);
         let at = HEADER + OBJECT * place.min(n);
         let old = self.chart.get(at..at.saturating_add(8)).map_or(0.0, |b| f64::from_le_bytes(b.try_into().unwrap()));
-        let near = place.min(n.max(1) - n.min(1));
+        let entries = self.chart.get(4..8).map_or(0, |b| u32::from_le_bytes(b.try_into().unwrap()) as usize);
+        let near = min(place, min(max(n, 1), max(entries / 2, 1)) - 1);
         let time = if r.one_in(6) { old + [40.0, 900.0, 4e6, -300.0][r.below(4)] } else { old };
         let mut o = object(r, near, time);
         match r.below(8) {
@@ -249,10 +333,15 @@ impl Round {
         o
     }
 
+    /// Lengths to lend of both tables.
+    fn lengths(&self, r: &mut Random) -> (usize, usize) {
+        (self.length(r, self.records.len(), RECORD), self.length(r, self.values.len(), VALUES))
+    }
+
     fn replace(&mut self, r: &mut Random) -> Answer {
         let place = self.place(r);
         let o = self.new_object(r, place);
-        let (rl, vl) = (self.length(r, self.records.len(), RECORD), self.length(r, self.values.len(), VALUES));
+        let (rl, vl) = self.lengths(r);
         writeln!(self.script, "replace {place} {} {} {}", hex(&o), rl / RECORD, vl / VALUES).unwrap();
         let (mut chart, records, values) = (self.chart.clone(), self.records.clone(), self.values.clone());
         let answer = station::replace(&mut self.chart, place, &o, &mut self.records[..rl], &mut self.values[..vl]);
@@ -270,6 +359,43 @@ impl Round {
         assert!(chart == self.chart, "the chart has the object, and is else as it was");
         self.tell(answer, "accepted".into());
         answer
+    }
+
+    /// An object put in at a place, or the one there taken out.
+    fn edit(&mut self, place: usize, object: Option<&[u8]>, (rl, vl): (usize, usize)) -> Answer {
+        let (chart, records, values) = (self.chart.clone(), self.records.clone(), self.values.clone());
+        let (lent_records, lent_values) = (&mut self.records[..rl], &mut self.values[..vl]);
+        let (line, answer) = match object {
+            Some(o) => (format!("insert {place} {}", hex(o)), station::insert(&mut self.chart, place, o, lent_records, lent_values)),
+            None => (format!("remove {place}"), station::remove(&mut self.chart, place, lent_records, lent_values)),
+        };
+        writeln!(self.script, "{line} {} {}", rl / RECORD, vl / VALUES).unwrap();
+        if answer.is_ok() {
+            assert!(edited(&chart, place, object) == self.chart, "the chart is edited, and the bytes behind it are as they were");
+            let (n, by) = (count(&self.chart), if object.is_some() { 1 } else { -1 });
+            let made = if by == 1 { Windows::new(place, max(place + 3, 4), place + 34) } else { Windows::new(place, max(place + 2, 3), place + 33) };
+            assert!(moved_rows(RECORD, &records, &self.records, place, n, by, made.records), "records that are not made anew move with their objects");
+            assert!(moved_rows(VALUES, &values, &self.values, place, n, by, made.values), "values that are not made anew move with their objects");
+            if self.fresh {
+                self.check_fresh();
+            }
+        } else {
+            assert!(chart == self.chart && same(&records, &self.records) && same(&values, &self.values), "a refusal changes nothing");
+        }
+        self.tell(answer, "accepted".into());
+        answer
+    }
+
+    fn insert(&mut self, r: &mut Random) -> Answer {
+        let place = if r.one_in(3) { count(&self.chart).min(MOST) } else { self.place(r) };
+        let o = self.new_object(r, place);
+        let lengths = self.lengths(r);
+        self.edit(place, Some(&o), lengths)
+    }
+
+    fn remove(&mut self, r: &mut Random) -> Answer {
+        let (place, lengths) = (self.place(r), self.lengths(r));
+        self.edit(place, None, lengths)
     }
 
     /// A reading of either table into a slice that has room or has not.
@@ -290,6 +416,11 @@ impl Round {
         }
         let word = if record { "record" } else { "value" };
         let numbers = if written == 0 { String::new() } else if record { record_words(&out) } else { words(&out[..w]) };
+        if room < w && count(&self.chart) == 0 {
+            // the oracle, which is lent no slice for its answer, knows no 7 where N is 0
+            assert!(matches!(answer, Err(Refusal { number: 1 | 7, .. })), "{answer:?}");
+            return answer;
+        }
         writeln!(self.script, "{word} {place} {usable}").unwrap();
         self.tell(answer, format!("{word} {place}{numbers}"));
         answer
@@ -334,23 +465,43 @@ impl Round {
         if r.one_in(40) {
             self.poke(r);
         }
-        let which = [0, 1, 1, 1, 2, 2, 3, 3, 4][r.below(9)];
+        let which = [0, 1, 1, 2, 2, 3, 3, 4, 4, 5, 5, 6][r.below(12)];
         let answer = match which {
             0 => self.open(r),
             1 => self.replace(r),
-            2 => self.read(r, true),
-            3 => self.read(r, false),
+            2 => self.insert(r),
+            3 => self.remove(r),
+            4 => self.read(r, true),
+            5 => self.read(r, false),
             _ => self.totals(r),
         };
         counts.calls[which] += 1;
         counts.compared += (answer.is_ok() && self.fresh) as u64;
         let number = answer.map_or_else(|refusal| {
             let placed = (3..=5).contains(&refusal.number);
-            assert!((1..=8).contains(&refusal.number) && (placed || refusal.place == 0), "{refusal:?}");
-            assert!(!placed || (refusal.place as usize) < count(&self.chart), "{refusal:?}");
+            assert!((1..=9).contains(&refusal.number) && (placed || refusal.place == 0), "{refusal:?}");
+            assert!(!placed || (refusal.place as usize) < count(&self.chart) + (which == 2) as usize, "{refusal:?}");
+            assert!(refusal.number != 9 || which == 2, "{refusal:?}");
             refusal.number
         }, |()| 0);
         counts.refused[number as usize] += 1;
+    }
+}
+
+/// A chart of 16,384 circles in a buffer with room: no more go in, any may go out, and one then goes in again.
+fn at_the_limit(round: &mut Round) {
+    let n = station::MOST;
+    round.open_whole();
+    let circle = |round: &Round, place: usize| round.chart[HEADER + OBJECT * place..][..OBJECT].to_vec();
+    for place in [0, n / 2, n - 1] {
+        let (o, whole) = (circle(round, place), (round.records.len(), round.values.len()));
+        for k in [place, n] {
+            assert_eq!(round.edit(k, Some(&o), whole), Err(Refusal { number: 9, place: 0 }), "no room at the limit");
+        }
+        assert_eq!(round.edit(n + 1, Some(&o), whole), Err(Refusal { number: 8, place: 0 }), "8 comes before 9");
+        assert_eq!(round.edit(place, Some(&o), (RECORD * n, VALUES * n)), Err(Refusal { number: 7, place: 0 }), "7 comes before both");
+        assert_eq!(round.edit(place, None, whole), Ok(()));
+        assert_eq!(round.edit(place, Some(&o), whole), Ok(()));
     }
 }
 
@@ -368,26 +519,25 @@ fn main() {
     let (mut script, mut answers, mut rounds) = (String::new(), String::new(), 0);
     while counts.calls.iter().sum::<u64>() < calls {
         let mut round = Round::new(&mut r, scratch);
-        if let Some(folder) = folder {
-            let name = format!("{folder}/{rounds}.chart");
-            std::fs::write(&name, &round.chart).unwrap();
-            writeln!(round.script, "file {name}").unwrap();
-            writeln!(round.answers, "file {name}").unwrap();
-        }
+        folder.inspect(|folder| round.name(folder, rounds));
         (0..20).for_each(|_| round.call(&mut r, &mut counts));
+        scratch = std::mem::take(&mut round.scratch);
         if folder.is_some() {
-            writeln!(round.answers, "chart {} {:016X}", round.chart.len(), fnv(&round.chart)).unwrap();
-            script += &round.script;
-            answers += &round.answers;
+            let (calls, told) = round.told();
+            script += &calls;
+            answers += &told;
         }
-        scratch = round.scratch;
         rounds += 1;
     }
+    let mut largest = Round::of_circles(station::MOST, scratch);
+    folder.inspect(|folder| largest.name(folder, rounds));
+    at_the_limit(&mut largest);
     if let Some(folder) = folder {
-        std::fs::write(format!("{folder}/scripts"), script).unwrap();
-        std::fs::write(format!("{folder}/answers"), answers).unwrap();
+        let (calls, told) = largest.told();
+        std::fs::write(format!("{folder}/scripts"), script + &calls).unwrap();
+        std::fs::write(format!("{folder}/answers"), answers + &told).unwrap();
     }
-    let [open, replace, record, value, totals] = counts.calls;
-    println!("seed {seed}: {rounds} charts; open {open}, replace {replace}, read record {record}, read values {value}, totals {totals}");
+    let [open, replace, insert, remove, record, value, totals] = counts.calls;
+    println!("seed {seed}: {rounds} charts; open {open}, replace {replace}, insert {insert}, remove {remove}, read record {record}, read values {value}, totals {totals}");
     println!("carried out {}, refused by number {:?}; {} of those carried out were on the chart's own tables", counts.refused[0], &counts.refused[1..], counts.compared);
 }

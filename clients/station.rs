@@ -2,6 +2,7 @@
 #![allow(dead_code)]
 
 pub const OBJECT: usize = 56;
+pub const MOST: usize = 16384;
 pub const RECORD: usize = 16;
 pub const VALUES: usize = 5;
 pub const TOTALS: usize = 4;
@@ -11,6 +12,8 @@ mod library {
     extern "C" {
         pub fn difficulty_open(c: *const u8, cl: usize, r: *mut f64, rl: usize, v: *mut f64, vl: usize) -> u64;
         pub fn difficulty_replace(c: *mut u8, cl: usize, place: usize, o: *const u8, ol: usize, r: *mut f64, rl: usize, v: *mut f64, vl: usize) -> u64;
+        pub fn difficulty_insert(c: *mut u8, cl: usize, place: usize, o: *const u8, ol: usize, r: *mut f64, rl: usize, v: *mut f64, vl: usize) -> u64;
+        pub fn difficulty_remove(c: *mut u8, cl: usize, place: usize, r: *mut f64, rl: usize, v: *mut f64, vl: usize) -> u64;
         pub fn difficulty_read_record(c: *const u8, cl: usize, r: *const f64, rl: usize, place: usize, out: *mut f64, ol: usize) -> u64;
         pub fn difficulty_read_values(c: *const u8, cl: usize, v: *const f64, vl: usize, place: usize, out: *mut f64, ol: usize) -> u64;
         pub fn difficulty_totals(
@@ -64,7 +67,7 @@ pub fn answer(code: u64) -> Answer {
     if code == 0 { Ok(()) } else { Err(Refusal { number: (code >> 32) as u32, place: code as u32 }) }
 }
 
-// SAFETY of all five: a slice's pointer and length are valid for the call, and a `&mut` overlaps nothing.
+// SAFETY of all seven: a slice's pointer and length are valid for the call, and a `&mut` overlaps nothing.
 
 pub fn open(chart: &[u8], records: &mut [f64], values: &mut [f64]) -> Answer {
     answer(unsafe {
@@ -78,6 +81,21 @@ pub fn replace(chart: &mut [u8], place: usize, object: &[u8], records: &mut [f64
             chart.as_mut_ptr(), chart.len(), place, object.as_ptr(), object.len(),
             records.as_mut_ptr(), records.len(), values.as_mut_ptr(), values.len(),
         )
+    })
+}
+
+pub fn insert(chart: &mut [u8], place: usize, object: &[u8], records: &mut [f64], values: &mut [f64]) -> Answer {
+    answer(unsafe {
+        library::difficulty_insert(
+            chart.as_mut_ptr(), chart.len(), place, object.as_ptr(), object.len(),
+            records.as_mut_ptr(), records.len(), values.as_mut_ptr(), values.len(),
+        )
+    })
+}
+
+pub fn remove(chart: &mut [u8], place: usize, records: &mut [f64], values: &mut [f64]) -> Answer {
+    answer(unsafe {
+        library::difficulty_remove(chart.as_mut_ptr(), chart.len(), place, records.as_mut_ptr(), records.len(), values.as_mut_ptr(), values.len())
     })
 }
 

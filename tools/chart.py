@@ -8,6 +8,8 @@
 The text form is described in docs/TEXT.md, the bytes in docs/FORMAT.md. A file whose name ends in .txt is text, any other is bytes; `-` is standard
 input, as bytes (for to-bytes: as text). Text made from any bytes makes the same bytes again.
 
+A file may go on behind the length that its header gives: the chart is then the first bytes of a longer buffer.
+
 explain names the first condition that opening the chart meets, and says why in words; its status is 1 then, and 0 for a chart that opens.
 A text that cannot be read is status 2, with its line.
 """
@@ -384,7 +386,7 @@ def header_fault(b):
         if words[name] != at:
             return f"the {what} is {words[name]:,}, by the counts it must be {at:,}"
         at += size
-    if len(b) != at:
+    if len(b) < at:
         return f"the chart has {len(b):,} bytes, its header says {at:,}"
     if words["reserved"]:
         return f"the reserved word at 28 is {words['reserved']}, it must be 0"
@@ -560,7 +562,8 @@ def run(a):
     if found:
         print(sentence(found, lines))
         return 1
-    print("opens: {:,} objects, {:,} nested entries, {:,} points".format(*HEADER.unpack_from(b)[:3]))
+    words = HEADER.unpack_from(b)
+    print("opens: {:,} objects, {:,} nested entries, {:,} points".format(*words[:3]) + (f", {len(b) - words[6]:,} bytes behind" if len(b) > words[6] else ""))
     return 0
 
 

@@ -3,8 +3,8 @@
 
     client.py ORACLE CHART > OUT     OUT is clients/NAME.out for clients/NAME.chart
 
-ORACLE is the comparison program built from the customer's Rust. The calls are those of clients/client.c: an opening, a thousand drags of the middle
-object, and readings before, between and after them.
+ORACLE is the comparison program built from the customer's Rust, asked with an order 1 in ORDERS. The calls are those of clients/client.c, in a buffer with room for
+one object more: an opening, a thousand drags of the middle object, a copy of it put in, two objects taken out, and readings before, between and after.
 """
 import collections
 import struct
@@ -13,6 +13,7 @@ import sys
 
 SIZE = 56
 SCRATCH = 8_192
+READINGS = ("value", "record")  # refused, they are not printed
 
 
 def drags(b, n, place):
@@ -20,17 +21,30 @@ def drags(b, n, place):
     o = bytearray(b[80 + SIZE * place:80 + SIZE * (place + 1)])
     for step in range(1000):
         struct.pack_into("<f", o, 16, 200_000 if step % 10 == 9 else 100 + (step % 20 if step % 40 < 20 else 20 - step % 20))
-        yield f"replace {n if step % 17 == 16 else place} {o[:40 if step % 23 == 22 else SIZE].hex()} {n} {n}"
+        yield f"replace {n if step % 17 == 16 else place} {o[:40 if step % 23 == 22 else SIZE].hex()} {n + 2} {n + 2}"
+
+
+def shown(n, place):
+    return [f"value {place} {n + 2}", f"record {place} {n + 2}", f"totals {n + 2} / " + " ".join([str(SCRATCH)] * 4)]
 
 
 def calls(b, n, place):
-    shown = [f"value {place} {n}", f"record {place} {n}", f"totals {n} / " + " ".join([str(SCRATCH)] * 4)]
-    yield from [f"open {n} {n}", *shown]
-    for step, line in enumerate(drags(b, n, place)):
-        yield line
-        if step % 250 == 0:
-            yield from shown
-    yield from shown
+    """Those up to the last drag, and those after it."""
+    last = []
+
+    def dragged():
+        yield from [f"buffer {len(b) + SIZE}", f"open {n + 2} {n + 2}", *shown(n, place)]
+        for step, line in enumerate(drags(b, n, place)):
+            yield line
+            if len(line.split()[2]) == 2 * SIZE and int(line.split()[1]) == place and step % 10 != 9:
+                last[:] = [line.split()[2]]
+            if step % 250 == 0:
+                yield from shown(n, place)
+
+    first = list(dragged())
+    put_in, take_out = f"insert {place} {last[0]} {n + 2} {n + 2}", "remove {} " + f"{n + 2} {n + 2}"
+    return first, [*shown(n, place), put_in, *shown(n, place), put_in, take_out.format(0), *shown(n, place), take_out.format(place - 1),
+                   take_out.format(n - 1), *shown(n, place - 1)]
 
 
 def wide(bits):
@@ -42,12 +56,18 @@ def flag(digit):
 
 
 def told(answer):
-    """A reading as the clients print it; a record has its flags last, and all its numbers are f64."""
+    """An answer as the clients print it; a record has its flags last, and all its numbers are f64."""
     name, *w = answer.split()
     if name == "record":
         place, *w = w
         return " ".join(["record", *w[:8], wide(w[9]), wide(w[10]), w[11], w[12], w[14], w[15], flag(w[8]), flag(w[13])])
     return " ".join(["values", *w[1:]]) if name == "value" else answer
+
+
+def edited(line, answer):
+    """The line of an insertion or a removal; none for other calls."""
+    what = {"insert": "insertion", "remove": "removal"}.get(line.split()[0])
+    return what and f"{what}: {'carried out' if answer == 'accepted' else answer}"
 
 
 def main():
@@ -57,14 +77,15 @@ def main():
     with open(name, "rb") as file:
         b = file.read()
     n, = struct.unpack_from("<I", b)
-    lines = list(calls(b, n, n // 2))
-    answers = subprocess.run([oracle, "script", name], input="\n".join(lines), capture_output=True, text=True, check=True).stdout.splitlines()
-    if answers[0] != "opened":
-        sys.exit(f"{name}: {answers[0]}")
-    counts = collections.Counter(a.rpartition(" ")[0] or a for line, a in zip(lines, answers) if line.startswith("replace"))
+    first, after = calls(b, n, n // 2)
+    answers = subprocess.run([oracle, "script", name], input="\n".join(first + after), capture_output=True, text=True, check=True).stdout.splitlines()
+    if answers[1] != "opened":
+        sys.exit(f"{name}: {answers[1]}")
+    counts = collections.Counter(a.rpartition(" ")[0] or a for line, a in zip(first, answers) if line.startswith("replace"))
     dragged = [f"{'carried out' if a == 'accepted' else a}: {k} times" for a, k in sorted(counts.items())]
-    read = [told(a) for line, a in zip(lines, answers) if not line.startswith(("open", "replace"))]
-    print("\n".join([f"objects {n}", "opening: carried out", *read[:-3], *dragged, *read[-3:]]))
+    read = [told(a) for line, a in zip(first, answers) if not line.startswith(("buffer", "open", "replace"))]
+    rest = [edited(line, a) or told(a) for line, a in zip(after, answers[len(first):]) if not (line.startswith(READINGS) and a.startswith("refused"))]
+    print("\n".join([f"objects {n}", "opening: carried out", *read, *dragged, *rest]))
 
 
 if __name__ == "__main__":

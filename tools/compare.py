@@ -10,8 +10,12 @@ TOOLS is the folder of the oracle's scripts (mkcharts.py, mkscripts.py), BUILD t
 lists: PROGRAM reads from standard input for each chart its length (u32, little-endian) and its bytes, and prints the lister's lines for each, one
 after another. The charts are of all styles in turn, to 32,768 bytes; every eighth is damaged, though some of these open. Zeros of either sign are equal.
 
-scripts: PROGRAM is `test_scripts`, or reads and writes as it does (crates/test_scripts/src/main.rt); tools/scripts.py packs the calls. The charts open, and their
-scripts are lists of calls with no other hand on the chart. Tables hold numbers of other origin beforehand. Floats are compared by their bits.
+scripts: PROGRAM is `test_scripts`, or reads and writes as it does (crates/test_scripts/src/main.rt); tools/scripts.py packs the calls. The charts open; every
+fifth has 0 to 3 objects, and half of these are edited at every place. Every second script is a list of calls on one buffer, with no other hand on the chart; in the others a hand writes to the chart and
+calls are lent buffers of other lengths. Tables hold numbers of other origin beforehand. Floats are compared by their bits; where the oracle only says that
+a call is carried out, the program must not refuse it.
+
+The variable ORDERS tells the oracle and its scripts which orders have landed.
 
 The last line is `N equal, M different`; the status is 0 if M is 0 and N isn't.
 """
@@ -27,7 +31,7 @@ import sys
 import tempfile
 
 sys.dont_write_bytecode = True
-from scripts import KEPT, packed_script, patterns
+from scripts import KEPT, every_place, packed_script, patterns
 
 BATCH = 500
 
@@ -58,6 +62,14 @@ def style_chart(mk, seed, i):
     styles = list(mk.STYLES)
     style, key = styles[i % len(styles)], f"{seed}.{i // len(styles)}"
     return f"{style} {key}", mk.chart_of(style, key).pack()
+
+
+def script_chart(mk, seed, i):
+    """The chart of the i-th script, and its name."""
+    if i % 5 != 4:
+        return style_chart(mk, seed, i)
+    n = i // 10 % 4
+    return f"{n} objects {seed}.{i}", mk.sized(n, f"{seed}.{i}").pack()
 
 
 def list_chart(mk, seed, i):
@@ -102,22 +114,30 @@ def lists(a, oracle):
         yield [name for name, _ in made], b"".join(map(packed_chart, charts)), oracle.answers(["list"], charts)
 
 
-def script_of(mkscripts, a, i, chart):
-    """The calls on the i-th chart, and the script's bytes."""
+def packed_call(a, i, chart, calls, answer):
+    """The bytes of the i-th script."""
     rng = random.Random(f"tables/{a.seed}/{i}")
-    calls = mkscripts.script(chart, a.seed, a.calls, pure=True)[0]
-    return calls, packed_script(rng, chart, rng.choice(list(patterns(rng))), calls)
+    return packed_script(rng, chart, rng.choice(list(patterns(rng))), calls, answer.splitlines())
+
+
+def calls_of(a, i, chart):
+    """The i-th script."""
+    import mkscripts
+    if i % 10 == 9:
+        return every_place(chart)
+    return mkscripts.script(chart, a.seed, a.calls, pure=i % 2 == 0)[0]
 
 
 def scripts(a, oracle):
     import mkcharts as mk
-    import mkscripts
     for first in range(0, a.count, BATCH):
         numbers = range(first, min(first + BATCH, a.count))
-        made = [style_chart(mk, a.seed, i) for i in numbers]
-        played = [script_of(mkscripts, a, i, b) for i, (_, b) in zip(numbers, made)]
-        want = oracle.answers(["script"], [b for _, b in made], [calls for calls, _ in played])
-        yield [name for name, _ in made], b"".join(data for _, data in played), [answer + KEPT + "\n" for answer in want]
+        made = [script_chart(mk, a.seed, i) for i in numbers]
+        charts = [b for _, b in made]
+        played = [calls_of(a, i, b) for i, b in zip(numbers, charts)]
+        want = oracle.answers(["script", "--unopened"], charts, played)
+        data = b"".join(map(packed_call, [a] * len(made), numbers, charts, played, want))
+        yield [name for name, _ in made], data, [answer + KEPT + "\n" for answer in want]
 
 
 def cut(mode, text, want):
@@ -135,14 +155,18 @@ def merged(text):
     return re.sub(r"\b8(0{15})\b", r"0\1", text)
 
 
+def left_open(want, got):
+    """Whether the oracle says no more than that a call is carried out, or of an entry that it was written, and the program agrees."""
+    return want == "carried-out" and not got.startswith("refused ") or want.endswith(" unknown") and got.startswith(want[:-7])
+
+
 def difference(mode, want, got):
     """None, or the first line that differs."""
     if mode == "lists":
         want, got = merged(want), merged(got)
-    if want == got:
-        return None
     pairs = zip((want + "(end)").split("\n"), (got + "(end)").split("\n"))
-    return next((f"oracle {w}, program {g}" for w, g in pairs if w != g), "one goes on")
+    found = next((f"oracle {w}, program {g}" for w, g in pairs if w != g and not left_open(w, g)), None)
+    return found if found or want.count("\n") == got.count("\n") else "one goes on"
 
 
 class Tally:

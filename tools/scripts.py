@@ -2,13 +2,15 @@
 """Scripts of calls for the program `test_scripts`, with the answers that they must get.
 
     scripts.py ORACLE SECOND DIR SEED CALLS CHARTS..     writes DIR/stdin and DIR/stdout
+    scripts.py ORACLE SECOND DIR --add SEED CALLS CHARTS..     appends to them
 
 ORACLE is the comparison program built from the customer's Rust, SECOND the folder of its second calculator and of mkscripts.py, which makes the
-calls. A chart that opens gets two scripts: one that opens it first, and a shorter one on tables that were never filled. A chart that does not
-open gets one of the second kind. Tables and scratch are lent in numbers, so a length has up to one entry less one number on top.
+calls; the variable ORDERS tells them which orders have landed. A chart that opens gets two scripts: one that opens it first, and a shorter one on tables
+that were never filled. A chart that does not open gets one of the second kind, a short one that opens a third which edits it at every place. Tables and scratch are lent in numbers, so a length has up to one entry less
+one number on top.
 
 The answers are the oracle's. Where it only says that a call is carried out, because the tables were made elsewhere, the model below answers: it
-keeps both tables and works out with the second calculator what an edit makes anew. Where the oracle answers too, the model must agree.
+keeps memory and both tables and works out with the second calculator what an edit makes anew. Where the oracle answers too, the model must agree.
 """
 import collections
 import math
@@ -26,18 +28,26 @@ import foreign
 from foreign import Real
 
 ENTRIES = 1024
+MEMORY = 65536  # bytes that the program keeps: the chart, and what a buffer has behind it
 KEPT = "entries kept"  # the last line of every script
-NAMES = ("open", "replace", "record", "value", "totals", "poke", "chart")
+NAMES = ("open", "replace", "record", "value", "totals", "poke", "chart", "insert", "remove", "buffer", "entry")
 KINDS = {name: kind for kind, name in enumerate(NAMES)}
+EDITS = ("replace", "insert", "remove")
+
+
+def object_bytes(text):
+    return b"" if text == "-" else bytes.fromhex(text)
 
 
 class Model:
-    """A chart and its two tables, 1,024 entries each."""
+    """A chart at the front of its memory and its two tables, 1,024 entries each."""
 
     def __init__(self, second, chart, pattern):
-        self.second, self.chart = second, chart
+        self.second = second
+        self.chart = chart + bytes(i % 251 for i in range(len(chart), MEMORY))
         self.records = [[pattern[(16 * j + i) % 80] for i in range(16)] for j in range(ENTRIES)]
         self.values = [[pattern[(5 * j + i) % 80] for i in range(5)] for j in range(ENTRIES)]
+        self.unwritten = [*map(self.words, range(ENTRIES))]
 
     def fill(self, first, records_end, from_value, values_end):
         """Records from the chart, values from the records in the table."""
@@ -60,15 +70,50 @@ class Model:
         self.chart = self.second.put(self.chart, k, obj)
         self.fill(max(1, k), k + 3, max(1, k - 1), k + 34)
 
-    def record_line(self, j):
+    def recount(self, objects):
+        """Count, offsets and length for another list of objects; the bytes behind the chart's new end stay."""
+        _, nested, points, _, at, _, end, word = struct.unpack_from("<8I", self.chart)
+        later, new_at = self.chart[at:end], 80 + sum(map(len, objects))
+        points_at = new_at + 24 * nested
+        counts = struct.pack("<8I", len(objects), nested, points, 80, new_at, points_at, points_at + 16 * points, word)
+        chart = counts + self.chart[32:80] + b"".join(objects) + later
+        self.chart = chart + self.chart[len(chart):]
+
+    def objects(self):
+        n, size = struct.unpack_from("<I", self.chart)[0], self.second.size_of(self.chart)
+        return [self.chart[80 + size * i:80 + size * (i + 1)] for i in range(n)]
+
+    def inserted(self, k, obj):
+        objects, first = self.objects(), max(1, k)
+        for table in (self.records, self.values):
+            table[first + 1:len(objects) + 1] = table[first:len(objects)]
+        self.recount(objects[:k] + [obj] + objects[k:])
+        self.fill(first, max(k + 3, 4), max(1, k - 1), k + 34)
+
+    def removed(self, k):
+        objects, first = self.objects(), max(1, k)
+        for table in (self.records, self.values):
+            table[first:len(objects) - 1] = table[first + 1:len(objects)]
+        self.recount(objects[:k] + objects[k + 1:])
+        self.fill(first, max(k + 2, 3), max(1, k - 1), k + 33)
+
+    def words(self, j):
+        """What an entry holds, as it is shown."""
         second, row = self.second, self.records[j]
         hx, h32 = second.hx, lambda x: second.h32(second.to32(x))
         flag = lambda x: "0" if x == 0 else "1"
-        words = [*map(hx, row[:8]), flag(row[14]), h32(row[8]), h32(row[9]), hx(row[10]), hx(row[11]), flag(row[15]), hx(row[12]), hx(row[13])]
-        return " ".join(["record", str(j), *words])
+        return ([*map(hx, row[:8]), flag(row[14]), h32(row[8]), h32(row[9]), hx(row[10]), hx(row[11]), flag(row[15]), hx(row[12]), hx(row[13])],
+                [*map(hx, self.values[j])], [*map(hx, row)])
+
+    def record_line(self, j):
+        return " ".join(["record", str(j), *self.words(j)[0]])
 
     def value_line(self, j):
-        return " ".join(["value", str(j), *map(self.second.hx, self.values[j])])
+        return " ".join(["value", str(j), *self.words(j)[1]])
+
+    def entry_line(self, j):
+        words = self.words(j)
+        return f"entry {j} kept" if words == self.unwritten[j] else " ".join(["entry", str(j), *words[0], *words[1]])
 
     def totals_line(self):
         second = self.second
@@ -110,41 +155,66 @@ def patterns(r):
     yield [r.choice(foreign.WILD) for _ in range(80)]
 
 
-def packed(r, line):
-    """A call as the program reads it."""
+def packed(r, lent, line):
+    """A call as the program reads it, and the length of the buffer that is lent from then on."""
     def table(entries, size):
         most = size * ENTRIES
         return struct.pack("<I", min(most, size * int(entries) + r.randrange(size)))
 
-    def chunk(text):
-        data = b"" if text == "-" else bytes.fromhex(text)
+    def chunk(data):
         return struct.pack("<I", len(data)) + data
 
     name, *w = line.split()
-    out = struct.pack("<I", KINDS[name])
+    buffer = lent
+    if name == "buffer":
+        buffer = lent = int(w[0])
+    elif name in EDITS and len(w) > 3 + (name != "remove"):
+        buffer = int(w.pop())
+    if buffer > MEMORY:
+        sys.exit(f"a longer memory is needed: {line}")
+    out = struct.pack("<2I", KINDS[name], buffer)
     if name == "open":
-        return out + table(w[0], 16) + table(w[1], 5)
-    if name == "replace":
-        return out + struct.pack("<Q", int(w[0])) + chunk(w[1]) + table(w[2], 16) + table(w[3], 5)
-    if name == "record":
-        return out + struct.pack("<Q", int(w[0])) + table(w[1], 16)
-    if name == "value":
-        return out + struct.pack("<Q", int(w[0])) + table(w[1], 5)
-    if name == "totals":
-        return out + table(w[0], 5) + struct.pack("<4I", *map(int, w[2:]))
-    if name == "poke":
-        return out + struct.pack("<I", int(w[0])) + chunk(w[1])
-    return out
+        out += table(w[0], 16) + table(w[1], 5)
+    elif name in EDITS:
+        obj = b"" if name == "remove" else object_bytes(w[1])
+        out += struct.pack("<Q", int(w[0])) + chunk(obj) + table(w[-2], 16) + table(w[-1], 5)
+    elif name == "record":
+        out += struct.pack("<Q", int(w[0])) + table(w[1], 16)
+    elif name == "value":
+        out += struct.pack("<Q", int(w[0])) + table(w[1], 5)
+    elif name == "totals":
+        out += table(w[0], 5) + struct.pack("<4I", *map(int, w[2:]))
+    elif name == "poke":
+        out += struct.pack("<I", int(w[0])) + chunk(object_bytes(w[1]))
+    elif name == "entry":
+        out += struct.pack("<I", int(w[0]))
+    return out, lent
 
 
-def packed_script(r, chart, pattern, lines):
-    """A script as the program reads it."""
-    return struct.pack(f"<I{len(chart)}s80dI", len(chart), chart, *pattern, len(lines)) + b"".join(packed(r, line) for line in lines)
+def most_objects(chart, lines, told):
+    """The largest N on the way."""
+    n = most = struct.unpack_from("<I", chart)[0] if len(chart) >= 80 else 0
+    for line, answer in zip(lines, told):
+        if answer == "accepted":
+            name = line.split()[0]
+            n += (name == "insert") - (name == "remove")
+            most = max(most, n)
+    return min(most, ENTRIES)
+
+
+def packed_script(r, chart, pattern, lines, told):
+    """A script as the program reads it, for the answers that it gets."""
+    lent, calls = len(chart), []
+    for line in lines:
+        call, lent = packed(r, lent, line)
+        calls.append(call)
+    end = struct.pack("<2I", lent, most_objects(chart, lines, told))
+    return struct.pack(f"<I{len(chart)}s80dI", len(chart), chart, *pattern, len(lines)) + b"".join(calls) + end
 
 
 def unpacked(data):
     """The scripts of an input: chart, pattern and lines; a table has as many entries as it has whole ones."""
-    at = 0
+    at = lent = 0
 
     def take(form):
         nonlocal at
@@ -154,25 +224,37 @@ def unpacked(data):
     def chunk():
         return take(f"{take('<I')[0]}s")[0]
 
+    def tables():
+        return [n // size for n, size in zip(take("<2I"), (16, 5))]
+
     def call():
-        name = NAMES[take("<I")[0]]
+        nonlocal lent
+        kind, buffer = take("<2I")
+        name = NAMES[kind]
         if name == "open":
-            w = [n // size for n, size in zip(take("<2I"), (16, 5))]
-        elif name == "replace":
-            w = [*take("<Q"), chunk().hex() or "-", *(n // size for n, size in zip(take("<2I"), (16, 5)))]
+            w = tables()
+        elif name in EDITS:
+            w = [*take("<Q"), chunk().hex() or "-", *tables(), *[buffer] * (buffer != lent)]
+            w = w[:1] + w[2:] if name == "remove" else w
         elif name in ("record", "value"):
             w = [*take("<Q"), take("<I")[0] // (16 if name == "record" else 5)]
         elif name == "totals":
             w = [take("<I")[0] // 5, "/", *take("<4I")]
         elif name == "poke":
             w = [*take("<I"), chunk().hex() or "-"]
+        elif name == "entry":
+            w = [*take("<I")]
+        elif name == "buffer":
+            w, lent = [buffer], buffer
         else:
             w = []
         return " ".join(map(str, [name, *w]))
 
     while at < len(data):
         chart, pattern = chunk(), take("<80d")
+        lent = len(chart)
         yield chart, list(pattern), [call() for _ in range(take("<I")[0])]
+        take("<2I")
 
 
 def answered(model, line, answer):
@@ -181,13 +263,17 @@ def answered(model, line, answer):
     if name == "open" and answer == "opened":
         model.fill(1, ENTRIES, 1, ENTRIES)
     elif name == "replace" and answer == "accepted":
-        model.replaced(int(w[0]), bytes.fromhex(w[1]))
+        model.replaced(int(w[0]), object_bytes(w[1]))
+    elif name == "insert" and answer == "accepted":
+        model.inserted(int(w[0]), object_bytes(w[1]))
+    elif name == "remove" and answer == "accepted":
+        model.removed(int(w[0]))
     elif name == "poke":
-        at, new = int(w[0]), b"" if w[1] == "-" else bytes.fromhex(w[1])
+        at, new = int(w[0]), object_bytes(w[1])
         model.chart = model.chart[:at] + new + model.chart[at + len(new):]
-    elif name in ("record", "value", "totals") and not answer.startswith("refused"):
-        own = model.record_line(int(w[0])) if name == "record" else model.value_line(int(w[0])) if name == "value" else model.totals_line()
-        if answer not in ("carried-out", own):
+    elif name in ("record", "value", "totals", "entry") and not answer.startswith("refused"):
+        own = model.totals_line() if name == "totals" else getattr(model, name + "_line")(int(w[0]))
+        if answer not in ("carried-out", f"entry {w[0]} unknown", own):
             sys.exit(f"the model does not agree: {line}\n{answer}\n{own}")
         return own
     return answer
@@ -204,35 +290,73 @@ def answers(second, oracle, chart, pattern, lines, unopened):
         sys.exit(f"the oracle stopped at {told[-2:]}")
     model = Model(second, chart, pattern)
     wanted = [answered(model, line, answer) for line, answer in zip(lines, told)]
-    return wanted + [told[-1], KEPT], sum(a == "carried-out" for a in told)
+    return wanted + [told[-1], KEPT], sum(a == "carried-out" or a.endswith(" unknown") for a in told)
+
+
+CIRCLE = struct.pack("<2d4f6I", 1000.0, 1000.0, 100.0, 100.0, *[0.0] * 2, *[0] * 6)
+
+
+def every_place(chart):
+    """A script for a chart that opens: in a buffer with room for one object more, a copy put in and taken out again at every place, then all
+    objects taken out and put back from either end; after each edit all that can be read is read."""
+    n, size = struct.unpack_from("<I", chart)[0], 56
+    objects = [chart[80 + size * k:80 + size * (k + 1)].hex() for k in range(n)]
+    lines = [f"buffer {len(chart) + size}", f"open {n} {n}"]
+
+    def edit(k, obj, m):
+        """A removal where there is no object; m is N afterwards."""
+        lines.append(f"insert {k} {obj} {m} {m}" if obj else f"remove {k} {m + 1} {m + 1}")
+        lines.extend(f"{word} {j} {m}" for j in range(1, m) for word in ("record", "value"))
+        lines.extend([f"totals {m} / 8192 8192 8192 8192", f"entry {m}", f"entry {m + 1}", "chart"])
+
+    for k in range(n + 1):
+        edit(k, (objects[k:] + objects[-1:] + [CIRCLE.hex()])[0], n + 1)
+        lines.append(f"insert {k} {CIRCLE.hex()} {n + 2} {n + 2}")
+        edit(k, None, n)
+    for front in (True, False):
+        for m in reversed(range(n)):
+            edit(0 if front else m, None, m)
+        lines.append("remove 0 0 0")
+        for m in range(n):
+            edit(m if front else 0, objects[m] if front else objects[n - 1 - m], m + 1)
+    return lines
+
+
+def scripts(mkscripts, second, chart, seed, calls):
+    """The scripts on a chart, and whether each is on tables that were never filled."""
+    if second.conditions(chart) is None:
+        if len(chart) < 80 + 56 * 4:
+            yield every_place(chart), False
+        yield mkscripts.script(chart, f"{seed}/False", calls)[0], False
+    lines = mkscripts.script(chart, f"{seed}/True", calls // 3)[0]
+    lines.remove(next(line for line in lines if line.startswith("open ")))
+    yield lines, True
 
 
 def main():
     if len(sys.argv) < 7:
         sys.exit(__doc__)
-    oracle, folder, out, seed, calls, *names = sys.argv[1:]
+    oracle, folder, out, *rest = sys.argv[1:]
+    how, (seed, calls, *names) = ("a", rest[1:]) if rest[0] == "--add" else ("w", rest)
     sys.path.insert(0, folder)
     import mkscripts
     import second
     r = random.Random(f"scripts/{seed}")
     met, n_scripts, n_calls, n_open = collections.Counter(), 0, 0, 0
     fillings = list(patterns(r))
-    with open(f"{out}/stdin", "wb") as given, open(f"{out}/stdout", "w") as wanted:
+    with open(f"{out}/stdin", how + "b") as given, open(f"{out}/stdout", how) as wanted:
         for name in names:
             with open(name, "rb") as file:
                 chart = file.read()
-            opens = second.conditions(chart) is None
-            runs = [(int(calls), False)] * opens + [(int(calls) // 3, True)]
-            for count, unopened in runs:
-                lines = mkscripts.script(chart, f"{seed}/{unopened}", count)[0][unopened:]
+            for lines, unopened in scripts(mkscripts, second, chart, seed, int(calls)):
                 pattern = fillings[n_scripts % len(fillings)]
                 told, left = answers(second, oracle, chart, pattern, lines, unopened)
-                given.write(packed_script(r, chart, pattern, lines))
+                given.write(packed_script(r, chart, pattern, lines, told))
                 wanted.write("\n".join(told) + "\n")
                 n_scripts, n_calls, n_open = n_scripts + 1, n_calls + len(lines), n_open + left
                 for line, answer in zip(lines, told):
                     met[line.split()[0] + " " + (answer[:9] if answer.startswith("refused") else "done")] += 1
-    print(n_scripts, "scripts,", n_calls, "calls,", n_open, "answered by the model alone", dict(met), file=sys.stderr)
+    print(n_scripts, "scripts,", n_calls, "calls,", n_open, "answered by the model alone", dict(sorted(met.items())), file=sys.stderr)
 
 
 if __name__ == "__main__":

@@ -156,6 +156,18 @@ class Text(unittest.TestCase):
         self.assertIsNone(chart.explain(chart.to_bytes(SETTINGS + slider.format("1 3") + slider.format("3 1") + run + point)))
         self.assertEqual(chart.explain(chart.to_bytes(SETTINGS + slider.format("1 3") + slider.format("0 4") + run + point))[:2], (4, 1))
 
+    def test_bytes_behind_the_length(self):
+        """A chart may be the first bytes of a longer buffer; a length above the buffer's is wrong."""
+        text = SETTINGS + "circle at 5 x 1 y 2\n"
+        b = chart.to_bytes(text)
+        for behind in (b"\0", bytes(56), b"\xff" * 600):
+            self.assertEqual(chart.to_bytes(text + f"bytes {behind.hex()}\n"), b + behind)
+            self.assertEqual(chart.to_bytes(chart.to_text(b + behind)), b + behind)
+            self.assertIsNone(chart.explain(b + behind))
+            longer = b[:24] + struct.pack("<I", len(b + behind)) + b[28:] + behind
+            self.assertEqual(chart.explain(longer), (1, 0, f"the length in the header is {len(longer):,}, by the counts it must be 136"))
+        self.assertEqual(chart.explain(b[:-1]), (1, 0, "the chart has 135 bytes, its header says 136"))
+
     def test_errors_name_the_line(self):
         self.fails(SETTINGS + "circle at 1 x 2", "line 7: y is missing")
         self.fails(SETTINGS + "\n# a comment\ncircle at 1 x 2 y 3 z 4", "line 9: z does not belong here")

@@ -1,4 +1,4 @@
-// Charts at the limit of N, built here: 16,384 circles open, 16,385 are refused by condition 1.
+// Charts at the limit of N, built here: 16,384 circles open, no object can be put in with them and any taken out; 16,385 are refused by condition 1.
 ghost use mathlib.Core.Path.{_≡_};
 ghost use Prim.Native.Nat.{_≤_};
 ghost use lib.ListN.{length};
@@ -64,19 +64,38 @@ fn put_circles(s: &mut [u8], at: usize, n: usize) {
     }
 }
 
-// What opening answers for a chart, on a line.
-fn answer(out: &mut [u8], s: &[u8]) {
-    match chart_opening::check(s, MOST) {
+// What a call answers, on a line.
+fn answer(out: &mut [u8], verdict: Verdict, word: &[u8]) {
+    match verdict {
         Verdict::Accepted => {
-            io::write_all(1, b"opened\n");
+            io::write_all(1, word);
         }
         Verdict::Refused(r) => {
-            let word = text::put_all(out, 0, b"refused ");
-            let number = text::put_decimal(out, word, r.number() as u64);
+            let refused = text::put_all(out, 0, b"refused ");
+            let number = text::put_decimal(out, refused, r.number() as u64);
             let end = text::put(out, number, b'\n');
             text::show(out, end);
         }
     }
+}
+
+// What opening answers for a chart in its buffer.
+fn open(out: &mut [u8], s: &[u8]) {
+    answer(out, chart_opening::check(s, MOST), b"opened\n");
+}
+
+// Puts a circle at 0 ms in; the tables count as long enough.
+fn insert(s: &mut [u8], out: &mut [u8], place: usize) {
+    let circle = [0u8; 56];
+    answer(
+        out,
+        chart_inserting::insert(s, place, &circle[..], MOST + 1),
+        b"inserted\n",
+    );
+}
+
+fn remove(s: &mut [u8], out: &mut [u8], place: usize) {
+    answer(out, chart_inserting::remove(s, place, MOST), b"removed\n");
 }
 
 // Builds a chart of n circles and opens it.
@@ -89,13 +108,22 @@ fn run(s: &mut [u8], out: &mut [u8], n: usize)
     let sight = put_sight(s, play);
     put_circles(s, sight, n);
     if size <= s.len() {
-        answer(out, &s[0..size]);
+        open(out, &s[0..size]);
     }
 }
 
+// Between the two charts as many circles go into the first again as went out: 9 at the last place that there is, 8 behind it.
 fn main() {
     let mut s = chart();
     let mut out = io::buffer();
     run(&mut s[..], &mut out[..], MOST);
+    insert(&mut s[..], &mut out[..], MOST);
+    insert(&mut s[..], &mut out[..], MOST + 1);
+    remove(&mut s[..], &mut out[..], MOST - 1);
+    remove(&mut s[..], &mut out[..], 0);
+    insert(&mut s[..], &mut out[..], 0);
+    insert(&mut s[..], &mut out[..], 0);
+    insert(&mut s[..], &mut out[..], 0);
+    open(&mut out[..], &s[..]);
     run(&mut s[..], &mut out[..], MOST + 1);
 }

@@ -1,13 +1,19 @@
-// Replays scripts of calls on a chart and its tables. Standard input has for each script the chart's length and bytes, 80 numbers (f64) with which
-// both tables are filled over and over, the number of calls, and for each call its kind and what it is given:
+// Replays scripts of calls on a chart and its tables. The chart stands at the front of a memory that has at offset i behind it the byte i % 251, and each
+// call is lent the front of that memory. Standard input has for each script the chart's length and bytes, 80 numbers (f64) with which both tables are
+// filled over and over, the number of calls, and for each call its kind, the length of the buffer that it is lent, and what else it is given:
 //   0 open: lengths of the record and the value table
 //   1 replace: place, length and bytes of the object, lengths of both tables
 //   2 record, 3 value: place, length of the table
 //   4 totals: length of the value table, four lengths of scratch
 //   5 another hand writes to the chart: offset, length and bytes
-//   6 the chart's length and FNV-1a hash
-// Places are u64, all else u32, tables and scratch are counted in numbers, all is little-endian. Every answer is a line. A script ends with the
-// lines of 6, and whether all entries but 1 to N - 1 hold what they held.
+//   6 the buffer's length and FNV-1a hash
+//   7 insert: as replace
+//   8 remove: as replace, with an object of no bytes
+//   9 such a buffer is lent from now on
+//   10 what an entry of both tables holds: its place
+// Then come the length of the buffer that is lent at the end, and the largest N on the way. Places of calls are u64, all else u32, tables and scratch are
+// counted in numbers, all is little-endian. Every answer is a line. A script ends with the lines of 6, and whether entry 0 and those behind the largest N
+// hold what they held.
 ghost use Prim.Native.Nat.{_≤_};
 use chart_opening::Verdict;
 use editor::RecordAnswer;
@@ -16,6 +22,13 @@ use editor::ValuesAnswer;
 
 // Scripts that are read at most.
 const MOST: usize = 65536;
+
+// Entries of each table, and numbers of an entry.
+const ENTRIES: usize = 1024;
+
+const RECORD_WIDTH: usize = 16;
+
+const VALUE_WIDTH: usize = 5;
 
 // What all scratch holds before a call.
 const UNUSED: f64 = 7.5;
@@ -61,7 +74,7 @@ fn hash_all(chart: &[u8], records: &[f64], values: &[f64]) -> u64 {
     hash_table(hash_table(hash(chart), records), values)
 }
 
-// The line of an opening or a replacement: a word, or the refusal, and where it changed anything a line that says so.
+// The line of an opening or an edit: a word, or the refusal, and where it changed anything a line that says so.
 fn put_verdict(
     out: &mut [u8],
     at: usize,
@@ -91,9 +104,26 @@ fn open(out: &mut [u8], at: usize, chart: &[u8], records: &mut [f64], values: &m
     put_verdict(out, at, verdict, b"opened\n", before, after)
 }
 
-fn replace(
+// An edit, by its kind.
+fn carry_out(
+    kind: usize,
+    chart: &mut [u8],
+    place: usize,
+    object: &[u8],
+    records: &mut [f64],
+    values: &mut [f64],
+) -> Verdict {
+    match kind {
+        1 => editor::replace(chart, place, object, records, values),
+        7 => editor::insert(chart, place, object, records, values),
+        _ => editor::remove(chart, place, records, values),
+    }
+}
+
+fn edit(
     out: &mut [u8],
     at: usize,
+    kind: usize,
     chart: &mut [u8],
     place: usize,
     object: &[u8],
@@ -103,15 +133,23 @@ fn replace(
     let r = text::next_length(records.len());
     let v = text::next_length(values.len());
     let before = hash_all(chart, records, values);
-    let verdict = editor::replace(chart, place, object, &mut records[0..r], &mut values[0..v]);
+    let verdict = carry_out(
+        kind,
+        chart,
+        place,
+        object,
+        &mut records[0..r],
+        &mut values[0..v],
+    );
     let after = hash_all(chart, records, values);
     put_verdict(out, at, verdict, b"accepted\n", before, after)
 }
 
 // Reads the place and the object before the call.
-fn read_and_replace(
+fn read_and_edit(
     out: &mut [u8],
     at: usize,
+    kind: usize,
     chart: &mut [u8],
     object: &mut [u8],
     records: &mut [f64],
@@ -122,7 +160,7 @@ fn read_and_replace(
     if object.len() < n {
         return at;
     }
-    replace(out, at, chart, place, &object[0..n], records, values)
+    edit(out, at, kind, chart, place, &object[0..n], records, values)
 }
 
 fn record(out: &mut [u8], at: usize, chart: &[u8], records: &[f64]) -> usize {
@@ -262,72 +300,10 @@ fn put_chart(out: &mut [u8], at: usize, chart: &[u8]) -> usize {
     text::put(out, end, b'\n')
 }
 
-// One call that leaves the tables alone.
-fn look(
-    out: &mut [u8],
-    at: usize,
-    kind: usize,
-    chart: &[u8],
-    records: &[f64],
-    values: &[f64],
-    a: &mut [f64],
-    b: &mut [f64],
-    c: &mut [f64],
-    d: &mut [f64],
-) -> usize {
-    match kind {
-        2 => record(out, at, chart, records),
-        3 => value(out, at, chart, values),
-        4 => {
-            mark_all(a, b, c, d);
-            read_and_total(out, at, chart, values, a, b, c, d)
-        }
-        _ => put_chart(out, at, chart),
-    }
-}
-
-// One call, by its kind.
-fn call(
-    out: &mut [u8],
-    at: usize,
-    chart: &mut [u8],
-    object: &mut [u8],
-    records: &mut [f64],
-    values: &mut [f64],
-    a: &mut [f64],
-    b: &mut [f64],
-    c: &mut [f64],
-    d: &mut [f64],
-) -> usize {
-    let kind = text::next_word();
-    match kind {
-        0 => open(out, at, chart, records, values),
-        1 => read_and_replace(out, at, chart, object, records, values),
-        5 => poke(out, at, chart, object),
-        _ => look(out, at, kind, chart, records, values, a, b, c, d),
-    }
-}
-
-// All calls of a script; the offset behind the last line that is not written yet.
-fn calls(
-    out: &mut [u8],
-    chart: &mut [u8],
-    object: &mut [u8],
-    records: &mut [f64],
-    values: &mut [f64],
-    a: &mut [f64],
-    b: &mut [f64],
-    c: &mut [f64],
-    d: &mut [f64],
-) -> usize {
-    let mut left = text::next_length(MOST);
-    let mut end = 0;
-    while 0 < left {
-        end = text::show_if_full(out, end);
-        end = call(out, end, chart, object, records, values, a, b, c, d);
-        left -= 1;
-    }
-    end
+fn put_lent(out: &mut [u8], at: usize, n: usize) -> usize {
+    let word = text::put_all(out, at, b"lent ");
+    let length = text::put_decimal(out, word, n as u64);
+    text::put(out, length, b'\n')
 }
 
 // Number i of the pattern that fills the tables.
@@ -344,50 +320,213 @@ fn fill(table: &mut [f64], pattern: &[f64]) {
     }
 }
 
-// Whether all numbers but those from low to high - 1 are the pattern's.
-fn kept(table: &[f64], pattern: &[f64], low: usize, high: usize) -> bool {
-    let mut i = 0;
-    while i < table.len() {
-        if (i < low) | (high <= i) {
-            let x = pattern_at(pattern, i);
-            if num_floats::bits_of_f64(table[i]) != num_floats::bits_of_f64(x) {
-                return false;
-            }
+// The bytes that follow a chart of n bytes.
+fn fill_memory(memory: &mut [u8], n: usize) {
+    let mut i = n;
+    while i < memory.len() {
+        memory[i] = (i % 251) as u8;
+        i += 1;
+    }
+}
+
+// Whether the table's numbers from low to high - 1 are the pattern's.
+fn patterned(table: &[f64], pattern: &[f64], low: usize, high: usize) -> bool {
+    let mut i = low;
+    while i < high {
+        if table.len() <= i {
+            return true;
+        }
+        let x = pattern_at(pattern, i);
+        if num_floats::bits_of_f64(table[i]) != num_floats::bits_of_f64(x) {
+            return false;
         }
         i += 1;
     }
     true
 }
 
-// Whether entries 0 and from N on hold what they held, for an N of at most 1,024.
-fn put_kept(
+// Whether both tables hold the pattern from one entry to before another.
+fn unwritten(pattern: &[f64], records: &[f64], values: &[f64], low: usize, high: usize) -> bool
+    requires { ⌜ (low ≤ 2048) × (high ≤ 2048) ⌝ }
+{
+    patterned(records, pattern, RECORD_WIDTH * low, RECORD_WIDTH * high)
+        & patterned(values, pattern, VALUE_WIDTH * low, VALUE_WIDTH * high)
+}
+
+// The offset of the line's end before an offset.
+fn line_end(at: usize) -> usize {
+    if 0 < at { at - 1 } else { 0 }
+}
+
+// The numbers of an entry of both tables.
+fn put_entry(out: &mut [u8], at: usize, place: usize, records: &[f64], values: &[f64]) -> usize
+    requires { ⌜ place ≤ 1024 ⌝ }
+{
+    if records.len() < RECORD_WIDTH * place + RECORD_WIDTH {
+        return at;
+    }
+    if values.len() < VALUE_WIDTH * place + VALUE_WIDTH {
+        return at;
+    }
+    let line = lines::put_record(out, at, place, osu_records::record_at(records, place));
+    let v = eval_values::row_at(values, place);
+    let aim = lines::put_f64(out, line_end(line), v.aim);
+    let aim_no_sliders = lines::put_f64(out, aim, v.aim_no_sliders);
+    let speed = lines::put_f64(out, aim_no_sliders, v.speed);
+    let rhythm = lines::put_f64(out, speed, v.rhythm);
+    let flashlight = lines::put_f64(out, rhythm, v.flashlight);
+    text::put(out, flashlight, b'\n')
+}
+
+// What an entry of both tables holds, or that it was never written.
+fn entry(out: &mut [u8], at: usize, pattern: &[f64], records: &[f64], values: &[f64]) -> usize {
+    let place = text::next_length(ENTRIES);
+    let word = text::put_all(out, at, b"entry ");
+    if unwritten(pattern, records, values, place, place + 1) {
+        let end = text::put_decimal(out, word, place as u64);
+        return text::put_all(out, end, b" kept\n");
+    }
+    put_entry(out, word, place, records, values)
+}
+
+// One call that leaves the tables alone.
+fn look(
     out: &mut [u8],
     at: usize,
+    kind: usize,
     chart: &[u8],
     pattern: &[f64],
     records: &[f64],
     values: &[f64],
+    a: &mut [f64],
+    b: &mut [f64],
+    c: &mut [f64],
+    d: &mut [f64],
 ) -> usize {
-    let n = objects(chart);
-    if kept(records, pattern, 16, 16 * n) & kept(values, pattern, 5, 5 * n) {
+    match kind {
+        2 => record(out, at, chart, records),
+        3 => value(out, at, chart, values),
+        4 => {
+            mark_all(a, b, c, d);
+            read_and_total(out, at, chart, values, a, b, c, d)
+        }
+        9 => put_lent(out, at, chart.len()),
+        10 => entry(out, at, pattern, records, values),
+        _ => put_chart(out, at, chart),
+    }
+}
+
+// One call, by its kind.
+fn call(
+    out: &mut [u8],
+    at: usize,
+    kind: usize,
+    chart: &mut [u8],
+    object: &mut [u8],
+    pattern: &[f64],
+    records: &mut [f64],
+    values: &mut [f64],
+    a: &mut [f64],
+    b: &mut [f64],
+    c: &mut [f64],
+    d: &mut [f64],
+) -> usize {
+    match kind {
+        0 => open(out, at, chart, records, values),
+        1 => read_and_edit(out, at, kind, chart, object, records, values),
+        7 => read_and_edit(out, at, kind, chart, object, records, values),
+        8 => read_and_edit(out, at, kind, chart, object, records, values),
+        5 => poke(out, at, chart, object),
+        _ => look(out, at, kind, chart, pattern, records, values, a, b, c, d),
+    }
+}
+
+// Reads the kind and the buffer's length before the call.
+fn read_and_call(
+    out: &mut [u8],
+    at: usize,
+    memory: &mut [u8],
+    object: &mut [u8],
+    pattern: &[f64],
+    records: &mut [f64],
+    values: &mut [f64],
+    a: &mut [f64],
+    b: &mut [f64],
+    c: &mut [f64],
+    d: &mut [f64],
+) -> usize {
+    let kind = text::next_word();
+    let n = text::next_length(memory.len());
+    call(
+        out,
+        at,
+        kind,
+        &mut memory[0..n],
+        object,
+        pattern,
+        records,
+        values,
+        a,
+        b,
+        c,
+        d,
+    )
+}
+
+// All calls of a script; the offset behind the last line that is not written yet.
+fn calls(
+    out: &mut [u8],
+    memory: &mut [u8],
+    object: &mut [u8],
+    pattern: &[f64],
+    records: &mut [f64],
+    values: &mut [f64],
+    a: &mut [f64],
+    b: &mut [f64],
+    c: &mut [f64],
+    d: &mut [f64],
+) -> usize {
+    let mut left = text::next_length(MOST);
+    let mut end = 0;
+    while 0 < left {
+        end = text::show_if_full(out, end);
+        end = read_and_call(
+            out,
+            end,
+            memory,
+            object,
+            pattern,
+            records,
+            values,
+            a,
+            b,
+            c,
+            d,
+        );
+        left -= 1;
+    }
+    end
+}
+
+// Whether entry 0 and those from the largest N on hold what they held.
+fn put_kept(out: &mut [u8], at: usize, pattern: &[f64], records: &[f64], values: &[f64]) -> usize {
+    let n = text::next_length(ENTRIES);
+    if unwritten(pattern, records, values, 0, 1) & unwritten(pattern, records, values, n, ENTRIES) {
         return text::put_all(out, at, b"entries kept\n");
     }
     text::put_all(out, at, b"entries lost\n")
 }
 
-// The number of objects, 0 for a chart that has no header, and 1,024 at most.
-fn objects(chart: &[u8]) -> usize
-    ensures { λ r. ⌜ r ≤ 1024 ⌝ }
-{
-    if chart.len() < 80 {
-        return 0;
-    }
-    let n = num_floats::count_at(chart, 0);
-    if n < 1024 { n } else { 1024 }
-}
-
-// Fills both tables with the pattern that comes first.
-fn prepare(object: &mut [u8], pattern: &mut [f64], records: &mut [f64], values: &mut [f64]) {
+// Fills both tables with the pattern that comes first, and the memory behind a chart of n bytes.
+fn prepare(
+    memory: &mut [u8],
+    n: usize,
+    object: &mut [u8],
+    pattern: &mut [f64],
+    records: &mut [f64],
+    values: &mut [f64],
+) {
+    fill_memory(memory, n);
     text::read_numbers(80, object, pattern);
     fill(records, pattern);
     fill(values, pattern);
@@ -397,20 +536,22 @@ fn prepare(object: &mut [u8], pattern: &mut [f64], records: &mut [f64], values: 
 fn finish(
     out: &mut [u8],
     at: usize,
-    chart: &[u8],
+    memory: &[u8],
     pattern: &[f64],
     records: &[f64],
     values: &[f64],
 ) {
-    let line = put_chart(out, at, chart);
-    let end = put_kept(out, line, chart, pattern, records, values);
+    let n = text::next_length(memory.len());
+    let line = put_chart(out, at, &memory[0..n]);
+    let end = put_kept(out, line, pattern, records, values);
     text::show(out, end);
 }
 
-// One script on its chart.
+// One script on its chart of n bytes.
 fn script(
     out: &mut [u8],
-    chart: &mut [u8],
+    memory: &mut [u8],
+    n: usize,
     object: &mut [u8],
     pattern: &mut [f64],
     records: &mut [f64],
@@ -420,15 +561,15 @@ fn script(
     c: &mut [f64],
     d: &mut [f64],
 ) {
-    prepare(object, pattern, records, values);
-    let end = calls(out, chart, object, records, values, a, b, c, d);
-    finish(out, end, chart, pattern, records, values);
+    prepare(memory, n, object, pattern, records, values);
+    let end = calls(out, memory, object, pattern, records, values, a, b, c, d);
+    finish(out, end, memory, pattern, records, values);
 }
 
 // Scripts to the end of the input.
 fn run(
     out: &mut [u8],
-    chart: &mut [u8],
+    memory: &mut [u8],
     object: &mut [u8],
     pattern: &mut [f64],
     records: &mut [f64],
@@ -440,20 +581,9 @@ fn run(
 ) {
     let mut left = MOST;
     while 0 < left {
-        let n = text::read_chart(chart);
-        if n <= chart.len() {
-            script(
-                out,
-                &mut chart[0..n],
-                object,
-                pattern,
-                records,
-                values,
-                a,
-                b,
-                c,
-                d,
-            );
+        let n = text::read_chart(memory);
+        if n <= memory.len() {
+            script(out, memory, n, object, pattern, records, values, a, b, c, d);
             left -= 1;
         } else {
             left = 0;
@@ -464,7 +594,7 @@ fn run(
 // The tables have 1,024 entries each, and the scratch is longer than it has to be.
 fn main() {
     let mut out = io::large_buffer();
-    let mut chart = io::large_buffer();
+    let mut memory = io::large_buffer();
     let mut object = [0u8; 1024];
     let mut pattern = [0.0f64; 80];
     let mut records = [0.0f64; 16384];
@@ -475,7 +605,7 @@ fn main() {
     let mut d = [0.0f64; 9216];
     run(
         &mut out[..],
-        &mut chart[..],
+        &mut memory[..],
         &mut object[..],
         &mut pattern[..],
         &mut records[..],

@@ -6,10 +6,10 @@ use Rattle.test_scripts.proofs.calls.Statement.{statement}
 use Rattle.test_scripts.proofs.calls.Tie as tie
 
 abbrev Inv-loop : tie.InvT-loop
-Inv-loop out₀ chart₀ object₀ records₀ values₀ a₀ b₀ c₀ d₀ left₀ end₀ out chart object records values a b c d left end = (length out ≡ length out₀) × (length chart ≡ length chart₀) × (length object ≡ length object₀) × (length records ≡ length records₀) × (length values ≡ length values₀) × (length a ≡ length a₀) × (length b ≡ length b₀) × (length c ≡ length c₀) × (length d ≡ length d₀)
+Inv-loop out₀ memory₀ object₀ pattern records₀ values₀ a₀ b₀ c₀ d₀ left₀ end₀ out memory object records values a b c d left end = (length out ≡ length out₀) × (length memory ≡ length memory₀) × (length object ≡ length object₀) × (length records ≡ length records₀) × (length values ≡ length values₀) × (length a ≡ length a₀) × (length b ≡ length b₀) × (length c ≡ length c₀) × (length d ≡ length d₀)
 
 abbrev μ-loop : tie.MeasureT-loop
-μ-loop out₀ chart₀ object₀ records₀ values₀ a₀ b₀ c₀ d₀ left₀ end₀ out chart object records values a b c d left end = left
+μ-loop out₀ memory₀ object₀ pattern records₀ values₀ a₀ b₀ c₀ d₀ left₀ end₀ out memory object records values a b c d left end = left
 
 next-length-requires : tie.Need-next-length-requires Inv-loop μ-loop
 next-length-requires c κs = search needs
@@ -20,8 +20,8 @@ loop-holds c = search needs
 show-if-full-requires : tie.Need-show-if-full-requires Inv-loop μ-loop
 show-if-full-requires c κs = search needs
 
-call-requires : tie.Need-call-requires Inv-loop μ-loop
-call-requires c κs = search needs
+read-and-call-requires : tie.Need-read-and-call-requires Inv-loop μ-loop
+read-and-call-requires c κs = search needs
 
 sub-left : tie.Need-sub-left Inv-loop μ-loop
 sub-left c = search needs
@@ -71,7 +71,7 @@ calls-spec =
     next-length-requires
     loop-holds
     show-if-full-requires
-    call-requires
+    read-and-call-requires
     sub-left
     loop-less
     loop-again

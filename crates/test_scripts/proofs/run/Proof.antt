@@ -1,4 +1,4 @@
--- `test_scripts::run` meets its contract: chart, tables and buffers keep their lengths, and left falls. Assumes nothing.
+-- `test_scripts::run` meets its contract: memory, tables and buffers keep their lengths, and left falls. Assumes nothing.
 use borrow.Author.Needs.{needs}
 use mathlib.Core.Path.{_≡_}
 use lib.ListN.{length}
@@ -6,25 +6,16 @@ use Rattle.test_scripts.proofs.run.Statement.{statement}
 use Rattle.test_scripts.proofs.run.Tie as tie
 
 abbrev Inv-loop : tie.InvT-loop
-Inv-loop out₀ chart₀ object₀ pattern₀ records₀ values₀ a₀ b₀ c₀ d₀ left₀ out chart object pattern records values a b c d left = (length out ≡ length out₀) × (length chart ≡ length chart₀) × (length object ≡ length object₀) × (length pattern ≡ length pattern₀) × (length records ≡ length records₀) × (length values ≡ length values₀) × (length a ≡ length a₀) × (length b ≡ length b₀) × (length c ≡ length c₀) × (length d ≡ length d₀)
+Inv-loop out₀ memory₀ object₀ pattern₀ records₀ values₀ a₀ b₀ c₀ d₀ left₀ out memory object pattern records values a b c d left = (length out ≡ length out₀) × (length memory ≡ length memory₀) × (length object ≡ length object₀) × (length pattern ≡ length pattern₀) × (length records ≡ length records₀) × (length values ≡ length values₀) × (length a ≡ length a₀) × (length b ≡ length b₀) × (length c ≡ length c₀) × (length d ≡ length d₀)
 
 abbrev μ-loop : tie.MeasureT-loop
-μ-loop out₀ chart₀ object₀ pattern₀ records₀ values₀ a₀ b₀ c₀ d₀ left₀ out chart object pattern records values a b c d left = left
+μ-loop out₀ memory₀ object₀ pattern₀ records₀ values₀ a₀ b₀ c₀ d₀ left₀ out memory object pattern records values a b c d left = left
 
 loop-holds : tie.Need-loop-holds Inv-loop μ-loop
 loop-holds c = search needs
 
 read-chart-requires : tie.Need-read-chart-requires Inv-loop μ-loop
 read-chart-requires c κs = search needs
-
-sub-script : tie.Need-sub-script Inv-loop μ-loop
-sub-script c = search needs
-
-part-script-start : tie.Need-part-script-start Inv-loop μ-loop
-part-script-start c = search needs
-
-part-script-end : tie.Need-part-script-end Inv-loop μ-loop
-part-script-end c = search needs
 
 script-requires : tie.Need-script-requires Inv-loop μ-loop
 script-requires c κs = search needs
@@ -85,9 +76,6 @@ run-spec =
     μ-loop
     loop-holds
     read-chart-requires
-    sub-script
-    part-script-start
-    part-script-end
     script-requires
     sub-left
     loop-less
