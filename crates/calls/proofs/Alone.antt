@@ -14,8 +14,8 @@ use Rattle.chart_opening.specs.declared.Verdict.the-variants.{Accepted, Refused
 use Rattle.chart_replacing.specs.Replace.{putObject}
 use Rattle.calls.specs.Simulation.{Throughout}
 use Rattle.calls.specs.Tables.{contents, tableAfter}
-use Rattle.calls.specs.Afresh.{Figure, count}
-use Rattle.calls.specs.Conditions.{Scratch, Lengths, lengths, Operation, replace, insert, remove, readRecord, readValues, figure, refusal}
+use Rattle.calls.specs.Afresh.{Detail, Figure, count}
+use Rattle.calls.specs.Conditions.{Scratch, Lengths, lengths, Operation, replace, insert, remove, readRecord, readValues, readDetail, figure, refusal}
 use Rattle.calls.specs.Calls.{State, Outcome, refuse, opened, openAnswer, openLeaves, edited, putIn, takenOut, execute, verdictIn, outcome, zeros, cleared, scratchAfter, lent, stateAfter, perform}
 use Rattle.calls.specs.Statement.{OwnTables, Outside, Admissible, countAfter, ownCall}
 use Rattle.calls.proofs.Refusals.{opening-met, accepted-replace, accepted-insert, accepted-remove}
@@ -37,6 +37,7 @@ own-tables (insert k o) = (tt, tt)
 own-tables (remove k) = (tt, tt)
 own-tables (readRecord k) = tt
 own-tables (readValues k) = tt
+own-tables (readDetail d k) = tt
 own-tables (figure f l) = tt
 
 pub own-calls : (ops : List Operation) (st : State) → Throughout perform Admissible (map ownCall ops) st
@@ -68,6 +69,10 @@ module _ (b : List ℕ) (rs vs : List Float) where
   pub values-alone : (k : ℕ) → outcome (readValues k) both .answer ≡ outcome (readValues k) no-records .answer
   unfolding outcome verdictIn refusal execute
   values-alone k = answers-alike _ both no-records _ _ refl
+
+  pub detail-alone : (d : Detail) (k : ℕ) → outcome (readDetail d k) both .answer ≡ outcome (readDetail d k) no-values .answer
+  unfolding outcome verdictIn refusal execute
+  detail-alone d k = answers-alike _ both no-values _ _ refl
 
   pub figure-alone : (f : Figure) (l : Lengths) → outcome (figure f l) both .answer ≡ outcome (figure f l) no-records .answer
   unfolding outcome verdictIn refusal execute
@@ -104,6 +109,10 @@ pub values-reads : (k : ℕ) (st : State) → outcome (readValues k) st .leaves 
 unfolding execute
 values-reads k st = by-cases (readValues k) st (λ x. x ≡ st) refl (λ e. refl)
 
+pub detail-reads : (d : Detail) (k : ℕ) (st : State) → outcome (readDetail d k) st .leaves ≡ st
+unfolding execute
+detail-reads d k st = by-cases (readDetail d k) st (λ x. x ≡ st) refl (λ e. refl)
+
 pub figure-reads : (f : Figure) (l : Lengths) (st : State) → outcome (figure f l) st .leaves ≡ st
 unfolding execute
 figure-reads f l st = by-cases (figure f l) st (λ x. x ≡ st) refl (λ e. refl)
@@ -125,6 +134,7 @@ writes (remove k) st =
     let (a, r) = accepted-remove k (length (st .records)) (length (st .values)) (st .chart) e in taken-out-outside k st a r)
 writes (readRecord k) st = subst⁻¹ (Written st) (record-reads k st) (outside-refl (count (st .chart)) st)
 writes (readValues k) st = subst⁻¹ (Written st) (values-reads k st) (outside-refl (count (st .chart)) st)
+writes (readDetail d k) st = subst⁻¹ (Written st) (detail-reads d k st) (outside-refl (count (st .chart)) st)
 writes (figure f l) st = subst⁻¹ (Written st) (figure-reads f l st) (outside-refl (count (st .chart)) st)
 
 -- N after it
@@ -136,6 +146,7 @@ counts (remove k) st e =
     let c = removed-more (st .chart) k (accepted-remove k (length (st .records)) (length (st .values)) (st .chart) e .0) .counts in omega (arith, c)
 counts (readRecord k) st e = refl
 counts (readValues k) st e = refl
+counts (readDetail d k) st e = refl
 counts (figure f l) st e = refl
 
 -- the buffer's length, and the bytes past the chart's
@@ -152,6 +163,7 @@ keeps (remove k) st =
     by-cases (remove k) st (Keeps st) (refl, refl) (λ e. removed-keeps (st .chart) k (accepted-remove k (length (st .records)) (length (st .values)) (st .chart) e .0))
 keeps (readRecord k) st = subst⁻¹ (Keeps st) (record-reads k st) (refl, refl)
 keeps (readValues k) st = subst⁻¹ (Keeps st) (values-reads k st) (refl, refl)
+keeps (readDetail d k) st = subst⁻¹ (Keeps st) (detail-reads d k st) (refl, refl)
 keeps (figure f l) st = subst⁻¹ (Keeps st) (figure-reads f l st) (refl, refl)
 
 -- ---- Opening

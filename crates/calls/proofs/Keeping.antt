@@ -26,7 +26,7 @@ use Rattle.chart_inserting.specs.Accepted.{Inserted, Removed}
 use Rattle.calls.specs.Simulation.{answers, after}
 use Rattle.calls.specs.Tables.{lengthOf}
 use Rattle.calls.specs.Afresh.{count}
-use Rattle.calls.specs.Conditions.{Operation, replace, insert, remove, readRecord, readValues, figure, refusal}
+use Rattle.calls.specs.Conditions.{Operation, replace, insert, remove, readRecord, readValues, readDetail, figure, refusal}
 use Rattle.calls.specs.Calls.{refused, Call, question, compute, plain}
 use Rattle.calls.specs.Statement.{Edit, put, putBefore, takeOut, blocksFrom, blocks, applied, appliedAll, isCarriedOut, withEdit, edits, Kept}
 use Rattle.calls.proofs.Refusals.{accepted-replace, accepted-insert, accepted-remove}
@@ -194,6 +194,8 @@ call-kept (readRecord k) r v b Accepted e es b' h = h
 call-kept (readRecord k) r v b (Refused x) e es b' h = h
 call-kept (readValues k) r v b Accepted e es b' h = h
 call-kept (readValues k) r v b (Refused x) e es b' h = h
+call-kept (readDetail d k) r v b Accepted e es b' h = h
+call-kept (readDetail d k) r v b (Refused x) e es b' h = h
 call-kept (figure f l) r v b Accepted e es b' h = h
 call-kept (figure f l) r v b (Refused x) e es b' h = h
 

@@ -21,10 +21,10 @@ use Rattle.chart_inserting.specs.Inserted as Into
 use Rattle.chart_inserting.specs.Removed as Out
 use Rattle.calls.specs.Tables.{entriesOf}
 use Rattle.calls.specs.Afresh.{Figure, count}
-use Rattle.calls.specs.Conditions.{Lengths, scratchShort, Operation, replace, insert, remove, readRecord, readValues, figure, figureConditions, opening, refusal}
+use Rattle.calls.specs.Conditions.{Lengths, scratchShort, Operation, replace, insert, remove, readRecord, readValues, readDetail, figure, sumConditions, figureConditions, opening, refusal}
 use Rattle.calls.specs.Statement.{Placed, ReplacePlaced, of-chart, of-place, of-length, of-result, InsertPlaced, insert-of-chart, insert-of-place, insert-of-room, insert-of-length, insert-of-result, RemovePlaced, remove-of-chart, remove-of-place, remove-of-result}
 use Rattle.calls.proofs.Refusals.{opening-met}
-use Rattle.calls.proofs.Places.{same-refusal, opening-placed, replace-placed, insert-placed, remove-placed, record-placed, values-placed, figure-placed}
+use Rattle.calls.proofs.Places.{same-refusal, opening-placed, replace-placed, insert-placed, remove-placed, record-placed, values-placed, detail-placed, figure-placed}
 
 few : (b : List ℕ) → headerOk b ≡ true → (j : ℕ) → j < count b → j ≤ mostObjects
 few b h j l = omega (arith, holds b h .few)
@@ -81,10 +81,12 @@ remove-limit k r v b q (remove-of-place a h p) = let z : refusalPlace q ≡ 0 = 
 remove-limit k r v b q (remove-of-result a h p) = placed-limit (removeObject k b) q (Out.header b k (header-ok b (opening-met r v b a .0)) h) p
 
 pub place-limit : (a : Operation) (r v : ℕ) (b : List ℕ) (q : Refusal) → refusal a r v b ≡ Refused q → refusalPlace q ≤ mostObjects
-unfolding refusal figureConditions
+unfolding refusal figureConditions sumConditions
 place-limit (replace k o) r v b q e = replace-limit k o r v b q (replace-placed k o r v b q e)
 place-limit (insert k o) r v b q e = insert-limit k o r v b q (insert-placed k o r v b q e)
 place-limit (remove k) r v b q e = remove-limit k r v b q (remove-placed k r v b q e)
 place-limit (readRecord k) r v b q e = let z = record-placed k r v b q e in omega arith
 place-limit (readValues k) r v b q e = let z = values-placed k r v b q e in omega arith
-place-limit (figure f l) r v b q e = at-limit b q (λ h. sym (first-refused (chartConditions b) _ Header (header-first b h)) ∙ e) (figure-placed f l r v b q e)
+place-limit (readDetail d k) r v b q e = let z = detail-placed d k r v b q e in omega arith
+place-limit (figure f l) r v b q e =
+    at-limit b q (λ h. sym (first-refused _ _ Header (first-refused (chartConditions b) _ Header (header-first b h))) ∙ e) (figure-placed f l r v b q e)

@@ -1,11 +1,12 @@
 -- What a record, a value and a strain depend on; and that opening and replacing leave fresh tables. Assumes nothing.
 use mathlib.Core.Path.{_≡_, refl, sym, ap, _∙_}
+use mathlib.Core.Bool.{Bool, true, false, cond}
 use mathlib.Core.List.{List}
 use Prim.Native.Nat.{ℕ, _+_, _-_, _*_, _≤_, _<_, min}
 use native.Mathlib.Omega.{arith}
 use native.Mathlib.Decide.{decLt}
-use lib.Ieee.{Float}
-use lib.ListN.{length}
+use lib.Ieee.{Float, nan}
+use lib.ListN.{length, getD}
 use Rattle.num_floats.specs.Numbers.{_⊖_, _⊘_}
 use Rattle.num_tables.specs.Parts.{row}
 use Rattle.num_tables.specs.Rows.{length-fill, take-fill, drop-fill, row-fill-in, row-fill-out}
@@ -17,7 +18,13 @@ use Rattle.osu_object.specs.Osu.{Object, objectOf, osuObject}
 use Rattle.osu_difficulty_object.specs.Record.{recordOf, chartRecord}
 use Rattle.osu_difficulty_object.proofs.Laws.{start-time, delta-time, lazy-end-x, lazy-end-y}
 use Rattle.osu_records.specs.Rows.{rowOf, recordAt}
+use Rattle.osu_records.specs.Sight.{sightOf, viewOf}
 use Rattle.osu_records.proofs.Laws.{row-length, record-is}
+use Rattle.eval_aim.specs.Aim.{combineOf, partsAtPlace, aimAtPlace}
+use Rattle.eval_aim.proofs.Value.{aim-combine, parts-same, aim-same}
+use Rattle.eval_rhythm.specs.Rhythm.{cellOf, cellsAt, countBefore, rhythmAtPlace}
+use Rattle.eval_rhythm.specs.Comparisons.{comparisonsAtPlace}
+use Rattle.eval_rhythm.proofs.Laws.{rhythm-same, comparisons-same}
 use Rattle.eval_values.specs.Values.{reachOf, valuesOf}
 use Rattle.eval_values.specs.Laws.{values-width}
 use Rattle.eval_values.proofs.Local.{values-local}
@@ -25,9 +32,9 @@ use Rattle.skills.specs.Strains.{strains}
 use Rattle.skills.specs.Chart.{startAt, deltaAt}
 use Rattle.skills.proofs.Local.{strains-local, total-local}
 use Rattle.calls.specs.Tables.{recordWidth, valueWidth}
-use Rattle.calls.specs.Afresh.{count, object, freshRecord, freshRow, freshValues, freshStrains, valuesFrom, strainsFrom, Figure, totals, totalsAre, totalsOf, figureOf, freshFigure, figureFrom}
+use Rattle.calls.specs.Afresh.{Record, count, object, freshRecord, freshRow, freshValues, freshStrains, valuesFrom, strainsFrom, Detail, aimParts, rhythm, aimIs, rhythmIs, detailOf, freshDetail, detailFrom, Figure, totals, totalsAre, totalsOf, figureOf, freshFigure, figureFrom}
 use Rattle.calls.specs.Calls.{State, state, openRecords, openValues, openStart, openMade, editRecords, editValues, recordsStart, recordsMade, valuesStart, valuesMade}
-use Rattle.calls.specs.Statement.{Fresh, Outside, FrameAfresh}
+use Rattle.calls.specs.Statement.{Fresh, Outside, valueFound, FrameAfresh}
 use Rattle.calls.proofs.Replacing.{count-same, settings-same, object-same}
 
 -- ---- Locality
@@ -105,6 +112,63 @@ value-from s b rs j p q h =
     (λ i x y z. read-back s b rs i (h i x (omega arith)))
     (λ i x y z t. read-back s b rs i (h i x (omega arith)) t .«start_time»)
     (λ i x y z t. read-back s b rs i (h i x (omega arith)) t .«delta_time»)
+
+-- ---- Details
+
+module _ (b : List ℕ) (rs rs' : ℕ → Record) (j : ℕ) (p : 1 ≤ j) (q : j < count b) (h : (i : ℕ) → 1 ≤ i → i < count b → rs i ≡ rs' i) where
+  -- what stands k places back
+  view-at : (k : ℕ) → k ≤ min (j - 1) 3 → viewOf (object b) rs j k ≡ viewOf (object b) rs' j k
+  view-at k x = ap (λ (r : Record). sightOf r (object b (j - k))) (h (j - k) (omega arith) (omega arith))
+
+  aim-at : (sliders : Bool) → aimAtPlace (object b) rs j sliders ≡ aimAtPlace (object b) rs' j sliders
+  aim-at sliders = aim-same (viewOf (object b) rs j) (viewOf (object b) rs' j) (j - 1) (j - 1) sliders refl view-at
+
+  parts-at : (sliders : Bool) → partsAtPlace (object b) rs j sliders ≡ partsAtPlace (object b) rs' j sliders
+  parts-at sliders = parts-same (viewOf (object b) rs j) (viewOf (object b) rs' j) (j - 1) (j - 1) sliders refl view-at
+
+  cell-at : (k : ℕ) → k ≤ countBefore j → cellsAt (object b) rs j k ≡ cellsAt (object b) rs' j k
+  cell-at k x = ap (λ (r : Record). cellOf (sightOf r (object b (j - k)))) (h (j - k) (omega arith) (omega arith))
+
+  rhythm-at : (window : Float) → rhythmAtPlace (object b) rs (reachOf (count b) j) j window ≡ rhythmAtPlace (object b) rs' (reachOf (count b) j) j window
+  rhythm-at window =
+      rhythm-same (object b) (object b) rs rs' (reachOf (count b) j) (reachOf (count b) j) j j window refl cell-at refl
+      (λ x. ap (λ (r : Record). r .«delta_time») (h (j + 1) (omega arith) (omega arith)))
+
+  comparisons-at : (window : Float) → comparisonsAtPlace (object b) rs j window ≡ comparisonsAtPlace (object b) rs' j window
+  comparisons-at window = comparisons-same (object b) (object b) rs rs' j j window refl cell-at
+
+-- a detail sees the records of places 1 to N - 1: each kind of detail adds one case here
+pub detail-local : (d : Detail) (s : Settings) (b : List ℕ) (rs rs' : ℕ → Record) (j : ℕ) → 1 ≤ j → j < count b
+    → ((i : ℕ) → 1 ≤ i → i < count b → rs i ≡ rs' i) → detailOf d s b rs j ≡ detailOf d s b rs' j
+unfolding detailOf
+detail-local aimParts s b rs rs' j p q h = λ t.
+    aimIs (aim-at b rs rs' j p q h true t) (parts-at b rs rs' j p q h true t) (aim-at b rs rs' j p q h false t) (parts-at b rs rs' j p q h false t)
+detail-local rhythm s b rs rs' j p q h = λ t. rhythmIs (rhythm-at b rs rs' j p q h (s .«hit_window») t) (comparisons-at b rs rs' j p q h (s .«hit_window») t)
+
+pub detail-from : (d : Detail) (s : Settings) (st : State) (j : ℕ) → 1 ≤ j → j < count (st .chart) → Fresh s st
+    → detailFrom d s (st .chart) (st .records) j ≡ freshDetail d s (st .chart) j
+detail-from d s st j p q f =
+    detail-local d s (st .chart) (recordAt (st .records)) (freshRecord s (st .chart)) j p q (λ i x y. read-back s (st .chart) (st .records) i (f .records i x y))
+
+-- the parts put together are the value that the table holds
+pub aim-held : (s : Settings) (st : State) (j : ℕ) → 1 ≤ j → j < count (st .chart) → Fresh s st → (sliders : Bool)
+    → combineOf (partsAtPlace (object (st .chart)) (recordAt (st .records)) j sliders) sliders ≡ getD (row valueWidth (st .values) j) (cond sliders 0 1) nan
+unfolding freshValues valuesOf
+aim-held s st j p q f sliders =
+    aim-combine (viewOf (object (st .chart)) (recordAt (st .records)) j) (j - 1) sliders
+    ∙ (aim-at (st .chart) (recordAt (st .records)) (freshRecord s (st .chart)) j p q (λ i x y. read-back s (st .chart) (st .records) i (f .records i x y)) sliders
+    ∙ (column sliders ∙ ap (λ (v : List Float). getD v (cond sliders 0 1) nan) (sym (f .values j p q))))
+  where
+    column : (with : Bool) → aimAtPlace (object (st .chart)) (freshRecord s (st .chart)) j with ≡ getD (freshValues s (st .chart) j) (cond with 0 1) nan
+    column true = refl
+    column false = refl
+
+pub rhythm-held : (s : Settings) (st : State) (j : ℕ) → 1 ≤ j → j < count (st .chart) → Fresh s st
+    → valueFound (detailFrom rhythm s (st .chart) (st .records) j) ≡ getD (row valueWidth (st .values) j) 3 nan
+unfolding detailOf freshValues valuesOf valueFound
+rhythm-held s st j p q f =
+    rhythm-at (st .chart) (recordAt (st .records)) (freshRecord s (st .chart)) j p q (λ i x y. read-back s (st .chart) (st .records) i (f .records i x y)) (s .«hit_window»)
+    ∙ ap (λ (v : List Float). getD v 3 nan) (sym (f .values j p q))
 
 -- so are strains
 pub strain-from : (s : Settings) (st : State) (j : ℕ) → j < count (st .chart) → Fresh s st → strainsFrom s (st .chart) (st .values) j ≡ freshStrains s (st .chart) j

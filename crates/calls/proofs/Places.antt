@@ -22,8 +22,8 @@ use Rattle.chart_opening.specs.declared.Verdict.the-variants.{Accepted, Refused
 use Rattle.chart_replacing.specs.Replace.{putObject, placeConditions, replaceConditions, replaceVerdict}
 use Rattle.chart_inserting.specs.Insert.{insertObject, removeObject, noRoom, insertPlaceConditions, insertConditions, removePlaceConditions, removeConditions}
 use Rattle.calls.specs.Tables.{entriesOf}
-use Rattle.calls.specs.Afresh.{Figure, count}
-use Rattle.calls.specs.Conditions.{Lengths, scratchShort, replace, insert, remove, readRecord, readValues, figure, readConditions, readVerdict, figureConditions, opening, refusal}
+use Rattle.calls.specs.Afresh.{Detail, Figure, totals, count}
+use Rattle.calls.specs.Conditions.{Lengths, scratchShort, replace, insert, remove, readRecord, readValues, readDetail, figure, readConditions, readVerdict, sumConditions, askedConditions, figureConditions, opening, refusal}
 use Rattle.calls.specs.Statement.{Lowest, Placed, ReplacePlaced, of-chart, of-place, of-length, of-result, InsertPlaced, insert-of-chart, insert-of-place, insert-of-room, insert-of-length, insert-of-result, RemovePlaced, remove-of-chart, remove-of-place, remove-of-result}
 
 pub same-refusal : {q r : Refusal} → Refused q ≡ Refused r → q ≡ r
@@ -100,10 +100,17 @@ open-placed b entries = first-each (Placed b) _ (each-append (Placed b) (chartCo
 pub opening-placed : (r v : ℕ) (b : List ℕ) (q : Refusal) → opening r v b ≡ Refused q → Placed b q
 opening-placed r v b = open-placed b (entriesOf r v)
 
+asked-placed : (f : Figure) (b : List ℕ) → Each (Placed b) (askedConditions f (count b))
+unfolding askedConditions
+asked-placed totals b = tt
+
 pub figure-placed : (f : Figure) (l : Lengths) (r v : ℕ) (b : List ℕ) (q : Refusal) → refusal (figure f l) r v b ≡ Refused q → Placed b q
-unfolding refusal figureConditions
+unfolding refusal figureConditions sumConditions
 figure-placed f l r v b =
-    first-each (Placed b) _ (each-append (Placed b) (chartConditions b) _ (chart-placed b) (few-placed b (v / 5), (each-if (Placed b) (scratchShort l) Table tt, tt)))
+    first-each (Placed b) _
+    (each-append (Placed b) (chartConditions b ++ (tooFew (v / 5) (count b) ∷ refuseIf (scratchShort l) Table ∷ [])) _
+    (each-append (Placed b) (chartConditions b) _ (chart-placed b) (few-placed b (v / 5), (each-if (Placed b) (scratchShort l) Table tt, tt)))
+    (asked-placed f b))
 
 -- ---- A reading: 1, 7 and 8, with place 0
 
@@ -120,6 +127,10 @@ record-placed k r v b = read-placed b (r / 16) k
 pub values-placed : (k r v : ℕ) (b : List ℕ) (q : Refusal) → refusal (readValues k) r v b ≡ Refused q → refusalPlace q ≡ 0
 unfolding refusal
 values-placed k r v b = read-placed b (v / 5) k
+
+pub detail-placed : (d : Detail) (k r v : ℕ) (b : List ℕ) (q : Refusal) → refusal (readDetail d k) r v b ≡ Refused q → refusalPlace q ≡ 0
+unfolding refusal
+detail-placed d k r v b = read-placed b (r / 16) k
 
 -- ---- A replacement
 

@@ -19,8 +19,8 @@ use Rattle.chart_opening.proofs.Header.{both}
 use Rattle.chart_replacing.specs.Accepted.{Taken, taken, room}
 use Rattle.chart_inserting.specs.Accepted.{Inserted, Removed, inserted, insert-entries, removed, remove-entries}
 use Rattle.calls.specs.Tables.{recordWidth, valueWidth, leastScratch, entriesOf}
-use Rattle.calls.specs.Afresh.{Figure, count}
-use Rattle.calls.specs.Conditions.{Lengths, replace, insert, remove, readRecord, readValues, figure, scratchShort, readConditions, readVerdict, figureConditions, figureVerdict, opening, refusal}
+use Rattle.calls.specs.Afresh.{Detail, Figure, count}
+use Rattle.calls.specs.Conditions.{Lengths, replace, insert, remove, readRecord, readValues, readDetail, figure, scratchShort, readConditions, readVerdict, sumConditions, sumVerdict, askedConditions, figureConditions, figureVerdict, opening, refusal}
 
 or-false : (a b : Bool) → (a || b) ≡ false → (a ≡ false) × (b ≡ false)
 or-false true b e = let z : _≡_ {A = ℕ} 0 1 = cc in absurd (omega arith)
@@ -74,26 +74,39 @@ pub accepted-record : (k r v : ℕ) (b : List ℕ) → refusal (readRecord k) r 
 unfolding refusal
 accepted-record k r v b e = accepted-read b (r / recordWidth) k e
 
+pub accepted-detail : (d : Detail) (k r v : ℕ) (b : List ℕ) → refusal (readDetail d k) r v b ≡ Accepted → Read b (r / recordWidth) k
+unfolding refusal
+accepted-detail d k r v b e = accepted-read b (r / recordWidth) k e
+
 pub accepted-values : (k r v : ℕ) (b : List ℕ) → refusal (readValues k) r v b ≡ Accepted → Read b (v / valueWidth) k
 unfolding refusal
 accepted-values k r v b e = accepted-read b (v / valueWidth) k e
 
--- a figure's conditions are opening's, and then scratch
-figure-list : (b : List ℕ) (entries : ℕ) (short : Bool) → figureConditions b entries short ≡ openConditions b entries ++ (refuseIf short Table ∷ [])
-unfolding figureConditions openConditions
-figure-list b entries short = sym (append-assoc (chartConditions b) (tooFew entries (count b) ∷ []) (refuseIf short Table ∷ []))
+-- the conditions of sums are opening's, and then scratch
+sum-list : (b : List ℕ) (entries : ℕ) (short : Bool) → sumConditions b entries short ≡ openConditions b entries ++ (refuseIf short Table ∷ [])
+unfolding sumConditions openConditions
+sum-list b entries short = sym (append-assoc (chartConditions b) (tooFew entries (count b) ∷ []) (refuseIf short Table ∷ []))
 
 module _ (b : List ℕ) (entries : ℕ) (short : Bool) where
-  pub figure-refused : (q : Refusal) → openVerdict b entries ≡ Refused q → figureVerdict b entries short ≡ Refused q
-  figure-refused q e = ap firstOf (figure-list b entries short) ∙ first-refused (openConditions b entries) _ q e
+  pub sum-refused : (q : Refusal) → openVerdict b entries ≡ Refused q → sumVerdict b entries short ≡ Refused q
+  sum-refused q e = ap firstOf (sum-list b entries short) ∙ first-refused (openConditions b entries) _ q e
 
-  pub figure-passed : openVerdict b entries ≡ Accepted → figureVerdict b entries short ≡ refuseIf short Table
+  pub sum-passed : openVerdict b entries ≡ Accepted → sumVerdict b entries short ≡ refuseIf short Table
   unfolding firstOf
-  figure-passed e = ap firstOf (figure-list b entries short) ∙ (first-passed (openConditions b entries) _ e ∙ last short)
+  sum-passed e = ap firstOf (sum-list b entries short) ∙ (first-passed (openConditions b entries) _ e ∙ last short)
     where
       last : (t : Bool) → firstOf (refuseIf t Table ∷ []) ≡ refuseIf t Table
       last true = refl
       last false = refl
+
+  -- a figure answers what the sums do, and then tries what comes with it
+  pub figure-refused : (f : Figure) (q : Refusal) → sumVerdict b entries short ≡ Refused q → figureVerdict f b entries short ≡ Refused q
+  unfolding figureConditions
+  figure-refused f q e = first-refused (sumConditions b entries short) _ q e
+
+  pub figure-passed : (f : Figure) → sumVerdict b entries short ≡ Accepted → figureVerdict f b entries short ≡ firstOf (askedConditions f (count b))
+  unfolding figureConditions
+  figure-passed f e = first-passed (sumConditions b entries short) (askedConditions f (count b)) e
 
 -- each skill has 8,192 numbers of scratch
 abbrev pub Enough : Lengths → Type 0
@@ -107,23 +120,37 @@ long l e =
     let (z, w) = or-false (ltb (l .speed) leastScratch) (ltb (l .flashlight) leastScratch) u in
     (ltb-false _ _ x, ltb-false _ _ y, ltb-false _ _ z, ltb-false _ _ w)
 
--- a figure is worked out exactly where the chart opens, the values have room and no scratch is short
-module _ (f : Figure) (l : Lengths) (r v : ℕ) (b : List ℕ) where
+-- sums are worked out exactly where the chart opens, the values have room and no scratch is short
+module _ (l : Lengths) (v : ℕ) (b : List ℕ) where
   behind : List Verdict
   behind = tooFew (v / valueWidth) (count b) ∷ refuseIf (scratchShort l) Table ∷ []
 
-  there : refusal (figure f l) r v b ≡ Accepted → Opens b × (valueWidth * count b ≤ v) × (scratchShort l ≡ false)
-  unfolding refusal figureConditions behind
-  there e =
+  pub sum-accepted : sumVerdict b (v / valueWidth) (scratchShort l) ≡ Accepted → Opens b × (valueWidth * count b ≤ v) × (scratchShort l ≡ false)
+  unfolding sumConditions behind
+  sum-accepted e =
       let t = then-accepts (chartConditions b) behind e in
       let h : count b ≤ v / valueWidth = ltb-false (v / valueWidth) (count b) (not-met (ltb (v / valueWidth) (count b)) Table (head-accepts _ _ t)) in
       (first-accepts (chartConditions b) behind e, omega arith, not-met (scratchShort l) Table (head-accepts _ _ (tail-accepts _ _ t)))
 
-  back : Opens b × (valueWidth * count b ≤ v) × (scratchShort l ≡ false) → refusal (figure f l) r v b ≡ Accepted
-  unfolding refusal figureConditions firstOf behind
-  back (o, h, w) =
+  sum-back : Opens b → valueWidth * count b ≤ v → scratchShort l ≡ false → sumVerdict b (v / valueWidth) (scratchShort l) ≡ Accepted
+  unfolding sumConditions firstOf behind
+  sum-back o h w =
       let t : count b ≤ v / valueWidth = omega arith in
       first-passed (chartConditions b) behind o ∙ rw (le-ltb (v / valueWidth) (count b) t, w)
 
-  pub figure-accepted : (refusal (figure f l) r v b ≡ Accepted) ↔ (Opens b × (valueWidth * count b ≤ v) × (scratchShort l ≡ false))
+-- a figure, where what comes with it passes too
+module _ (f : Figure) (l : Lengths) (r v : ℕ) (b : List ℕ) where
+  there : refusal (figure f l) r v b ≡ Accepted → Opens b × (valueWidth * count b ≤ v) × (scratchShort l ≡ false) × (firstOf (askedConditions f (count b)) ≡ Accepted)
+  unfolding refusal figureConditions
+  there e =
+      let s = first-accepts (sumConditions b (v / valueWidth) (scratchShort l)) (askedConditions f (count b)) e in
+      let (o, h, w) = sum-accepted l v b s in
+      (o, h, w, then-accepts (sumConditions b (v / valueWidth) (scratchShort l)) (askedConditions f (count b)) e)
+
+  back : Opens b × (valueWidth * count b ≤ v) × (scratchShort l ≡ false) × (firstOf (askedConditions f (count b)) ≡ Accepted) → refusal (figure f l) r v b ≡ Accepted
+  unfolding refusal
+  back (o, h, w, a) = figure-passed b (v / valueWidth) (scratchShort l) f (sum-back l v b o h w) ∙ a
+
+  pub figure-accepted : (refusal (figure f l) r v b ≡ Accepted)
+      ↔ (Opens b × (valueWidth * count b ≤ v) × (scratchShort l ≡ false) × (firstOf (askedConditions f (count b)) ≡ Accepted))
   figure-accepted = (there, back)

@@ -23,12 +23,12 @@ use Rattle.chart_inserting.specs.OneMore.{OneMore}
 use Rattle.chart_inserting.specs.Accepted.{Inserted, Removed}
 use Rattle.calls.specs.Tables.{recordWidth, valueWidth, Borrowed, IsOwn, contents, lengthOf, tableAfter}
 use Rattle.calls.specs.Afresh.{count, object, freshRow, valuesFrom, freshFigure, figureFrom, figureOf}
-use Rattle.calls.specs.Conditions.{Operation, replace, insert, remove, readRecord, readValues, figure, refusal}
-use Rattle.calls.specs.Calls.{replacedRecords, replacedValues, insertedRecords, insertedValues, removedRecords, removedValues, firstMoved, recordsStart, recordsMade, valuesStart, valuesMade, editRecords, editValues, Answer, refused, recordIs, valuesAre, figureIs, State, state, Outcome, refuse, opened, edited, putIn, takenOut, execute, verdictIn, outcome, Call, lent, stateAfter, perform, question, compute, plain}
+use Rattle.calls.specs.Conditions.{Operation, replace, insert, remove, readRecord, readValues, readDetail, figure, refusal}
+use Rattle.calls.specs.Calls.{replacedRecords, replacedValues, insertedRecords, insertedValues, removedRecords, removedValues, firstMoved, recordsStart, recordsMade, valuesStart, valuesMade, editRecords, editValues, Answer, refused, recordIs, valuesAre, detailIs, figureIs, State, state, Outcome, refuse, opened, edited, putIn, takenOut, execute, verdictIn, outcome, Call, lent, stateAfter, perform, question, compute, plain}
 use Rattle.calls.specs.Statement.{OwnTables, Outside, Fresh, settingsIn, Admissible}
-use Rattle.calls.proofs.Refusals.{Roomy, accepted-replace, accepted-insert, accepted-remove, accepted-record, accepted-values, figure-accepted}
+use Rattle.calls.proofs.Refusals.{Roomy, accepted-replace, accepted-insert, accepted-remove, accepted-record, accepted-values, accepted-detail, figure-accepted}
 use Rattle.calls.proofs.Replacing.{count-same, settings-same, object-same}
-use Rattle.calls.proofs.Locality.{read-back, values-from-same, figure-local, figure-from, record-width, value-width, open-fresh, open-records-length, open-values-length, open-outside, edit-records-length, edit-values-length, edit-record-kept, edit-value-kept, edit-record-made, edit-value-made, edit-outside, edit-fresh}
+use Rattle.calls.proofs.Locality.{read-back, values-from-same, detail-local, detail-from, figure-local, figure-from, record-width, value-width, open-fresh, open-records-length, open-values-length, open-outside, edit-records-length, edit-values-length, edit-record-kept, edit-value-kept, edit-record-made, edit-value-made, edit-outside, edit-fresh}
 use Rattle.calls.proofs.Moving.{inserted-more, removed-more, object-before, object-later}
 use Rattle.calls.proofs.Inserting.{inserted-fresh, removed-fresh}
 use Rattle.calls.proofs.Front.{later-drop, fill-same, after-same, length-lent, lent-shorter, row-lent, row-left, after-whole}
@@ -423,8 +423,15 @@ as-own (readValues k) t u st own e =
     let r = accepted-values k (length (contents t (st .records))) (length (contents u (st .values))) (st .chart) e in
     let h : valueWidth * k + valueWidth ≤ length (contents u (st .values)) = omega (arith, r .room, r .below) in
     (ap valuesAre (row-lent u own valueWidth k (st .values) h), same-state (record { operation = readValues k; records = t; values = u }) st)
+as-own (readDetail d k) t u st own e =
+    let r = accepted-detail d k (length (contents t (st .records))) (length (contents u (st .values))) (st .chart) e in
+    let h : recordWidth * count (st .chart) ≤ length (contents t (st .records)) = omega (arith, r .room) in (
+      ap detailIs (detail-local d (settingsOf (st .chart)) (st .chart) (recordAt (contents t (st .records))) (recordAt (st .records)) k (r .one) (r .below)
+          (λ i x y. front-record t own (count (st .chart)) i (st .records) h y)),
+      same-state (record { operation = readDetail d k; records = t; values = u }) st,
+    )
 as-own (figure f l) t u st own e =
-    let (_, h, _) = figure-accepted f l (length (contents t (st .records))) (length (contents u (st .values))) (st .chart) .0 e in (
+    let (_, h, _, _) = figure-accepted f l (length (contents t (st .records))) (length (contents u (st .values))) (st .chart) .0 e in (
       ap figureIs (figure-local f (settingsOf (st .chart)) (st .chart) (row valueWidth (contents u (st .values))) (row valueWidth (st .values))
           (λ i p q. row-lent u own valueWidth i (st .values) (omega arith))),
       same-state (record { operation = figure f l; records = t; values = u }) st,
@@ -451,6 +458,7 @@ Shorter (insert k o) r v st = (r ≤ length (st .records)) × (v ≤ length (st 
 Shorter (remove k) r v st = Unit {0}
 Shorter (readRecord k) r v st = Unit {0}
 Shorter (readValues k) r v st = Unit {0}
+Shorter (readDetail d k) r v st = Unit {0}
 Shorter (figure f l) r v st = Unit {0}
 
 shorter : (a : Operation) (t u : Borrowed) (st : State) → OwnTables a t u → Shorter a (length (contents t (st .records))) (length (contents u (st .values))) st
@@ -460,6 +468,7 @@ shorter (insert k o) t u st own = (lent-shorter t (own .0) (st .records), lent-s
 shorter (remove k) t u st own = tt
 shorter (readRecord k) t u st own = tt
 shorter (readValues k) t u st own = tt
+shorter (readDetail d k) t u st own = tt
 shorter (figure f l) t u st own = tt
 
 verdict-lent : (c : Call) (st : State) (r v : ℕ) → length (st .records) ≡ r → length (st .values) ≡ v
@@ -556,6 +565,9 @@ module _ (st₀ : State) where
   carried (readValues k) r v st i e h =
       let a = accepted-values k r v (st .chart) e in
       record { answer = ap valuesAre (i .fresh .values k (a .one) (a .below)); chart = refl; inv = i; outside = outside-refl (count (st .chart)) st }
+  carried (readDetail d k) r v st i e h =
+      let a = accepted-detail d k r v (st .chart) e in
+      record { answer = ap detailIs (detail-from d (settingsIn st) st k (a .one) (a .below) (i .fresh)); chart = refl; inv = i; outside = outside-refl (count (st .chart)) st }
   carried (figure f l) r v st i e h =
       record { answer = ap figureIs (figure-from f (settingsIn st) st (i .fresh)); chart = refl; inv = i; outside = outside-refl (count (st .chart)) st }
 

@@ -14,6 +14,8 @@ use Rattle.chart_opening.specs.Header.{layoutOf, settingsOf}
 use Rattle.chart_opening.specs.declared.Verdict.the-variants.{Accepted}
 use Rattle.osu_object.specs.Osu.{osuObject, kindOf}
 use Rattle.osu_object.proofs.Alike as Same
+use Rattle.eval_aim.proofs.Value.{aim-combine, rule-max}
+use Rattle.eval_rhythm.proofs.Bounded.{comparisons-bounded}
 use Rattle.eval_values.specs.Values.{reachOf}
 use Rattle.skills.proofs.Settles.{walk-unbounded}
 use Rattle.calls.specs.Simulation.{answers, after, Throughout}
@@ -23,15 +25,15 @@ use Rattle.calls.specs.Conditions.{replace, opening}
 use Rattle.calls.specs.Calls.{Answer, State, opened, openAnswer, Call, perform, Question, question, plain}
 use Rattle.calls.specs.Statement.{Outside, Fresh, settingsIn, Admissible, Kept, edits, Sound, Frame, unplaced, fieldsIn, Agree, Alike, Claims}
 use Rattle.calls.proofs.Refusals.{opening-met, opening-none, figure-accepted}
-use Rattle.calls.proofs.Places.{opening-placed, replace-placed, insert-placed, remove-placed, record-placed, values-placed, figure-placed, refusal-told}
+use Rattle.calls.proofs.Places.{opening-placed, replace-placed, insert-placed, remove-placed, record-placed, values-placed, detail-placed, figure-placed, refusal-told}
 use Rattle.calls.proofs.Limits.{opening-limit, place-limit}
-use Rattle.calls.proofs.Locality.{value-local, reach-at, strain-from, figure-from, open-fresh, read-back}
+use Rattle.calls.proofs.Locality.{value-local, reach-at, strain-from, detail-from, figure-from, aim-held, rhythm-held, open-fresh, read-back}
 use Rattle.calls.proofs.Simulating.{simulate, after-last, throughout-front, throughout-next}
 use Rattle.calls.proofs.Steps.{Inv, Good, step, opened-inv, outside-refl, outside-trans, outside-later}
 use Rattle.calls.proofs.Keeping.{plain-kept}
 use Rattle.calls.proofs.Frames.{frame}
 use Rattle.calls.proofs.Moves.{insert-moves, remove-moves}
-use Rattle.calls.proofs.Alone.{steps, own-calls, record-alone, values-alone, figure-alone, record-reads, values-reads, figure-reads, writes, counts, keeps, opening-reads, opening-writes, opened-outside, scratch-cleared, scratch-kept}
+use Rattle.calls.proofs.Alone.{steps, own-calls, record-alone, values-alone, detail-alone, figure-alone, record-reads, values-reads, detail-reads, figure-reads, writes, counts, keeps, opening-reads, opening-writes, opened-outside, scratch-cleared, scratch-kept}
 
 -- ---- The list of calls
 
@@ -108,7 +110,10 @@ module _ (st₀ : State) (e : openAnswer st₀ ≡ Accepted) where
           fresh = i .fresh;
           reads = λ j p q. read-back (settingsIn st) (st .chart) (st .records) j (i .fresh .records j p q);
           strains = λ j p q. strain-from (settingsIn st) st j q (i .fresh);
+          details = λ d j p q. detail-from d (settingsIn st) st j p q (i .fresh);
           figures = λ f. figure-from f (settingsIn st) st (i .fresh);
+          rhythm = λ j p q. rhythm-held (settingsIn st) st j p q (i .fresh);
+          aim = λ j p q sliders. aim-held (settingsIn st) st j p q (i .fresh) sliders;
           again = λ rs vs e' j p q.
               let copy : State = record { chart = st .chart; records = rs; values = vs } in
               (i .fresh .records j p q ∙ sym (opened-records copy e' j p q), i .fresh .values j p q ∙ sym (opened-values copy e' j p q));
@@ -175,6 +180,7 @@ theorem = record {
   steps = steps;
   record-alone = λ k b rs vs. record-alone b rs vs k;
   values-alone = λ k b rs vs. values-alone b rs vs k;
+  detail-alone = λ d k b rs vs. detail-alone b rs vs d k;
   figure-alone = λ f l b rs vs. figure-alone b rs vs f l;
   own-calls = own-calls;
   opening-writes = opening-writes;
@@ -183,6 +189,7 @@ theorem = record {
   opening-reads = opening-reads;
   record-reads = record-reads;
   values-reads = values-reads;
+  detail-reads = detail-reads;
   figure-reads = figure-reads;
   counts = counts;
   frame = frame;
@@ -197,6 +204,7 @@ theorem = record {
   remove-placed = remove-placed;
   record-placed = record-placed;
   values-placed = values-placed;
+  detail-placed = detail-placed;
   figure-placed = figure-placed;
   opening-limit = opening-limit;
   place-limit = place-limit;
@@ -204,5 +212,8 @@ theorem = record {
   figure-accepted = figure-accepted;
   scratch-cleared = scratch-cleared;
   scratch-kept = scratch-kept;
+  aim-together = aim-combine;
+  aim-rule = rule-max;
+  rhythm-bounded = comparisons-bounded;
   sections = walk-unbounded;
 }

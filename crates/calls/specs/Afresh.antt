@@ -1,5 +1,6 @@
--- "Afresh: by this document's rules from the chart's bytes alone": records, values, strains and figures of a chart, under given settings; and what follows
+-- "Afresh: by this document's rules from the chart's bytes alone": records, values, strains, details and figures of a chart, under given settings; and what follows
 -- from tables as they are found. Definitions only.
+use mathlib.Core.Bool.{true, false}
 use mathlib.Core.List.{List}
 use Prim.Native.Nat.{ℕ, zero}
 use lib.Ieee.{Float}
@@ -10,6 +11,10 @@ use Rattle.osu_object.specs.Osu.{Object, objectOf}
 use Rattle.osu_difficulty_object.specs.Record.{chartRecord}
 use Rattle.osu_difficulty_object.specs.declared.OsuDifficultyObject.{OsuDifficultyObject}
 use Rattle.osu_records.specs.Rows as Rows
+use Rattle.eval_aim.specs.Aim.{partsAtPlace, aimAtPlace}
+use Rattle.eval_aim.specs.declared.AimParts.{AimParts}
+use Rattle.eval_rhythm.specs.Rhythm.{rhythmAtPlace}
+use Rattle.eval_rhythm.specs.Comparisons.{comparisonsAtPlace}
 use Rattle.eval_values.specs.Values.{reachOf, valuesOf, valuesIn}
 use Rattle.skills.specs.declared.Skills.{Skills}
 use Rattle.skills.specs.Strains.{strains, total}
@@ -50,6 +55,33 @@ valuesFrom s b rs j = valuesIn s b (layoutOf b) rs j
 
 unfoldable pub strainsFrom : Settings → List ℕ → List Float → ℕ → Skills
 strainsFrom s b vs j = strains (deltaAt b (layoutOf b) (s .«clock_rate»)) (row valueWidth vs) j
+
+-- ---- Details: what is worked out at one place, from the chart and the records
+
+pub data Detail : Type 0 where
+  aimParts : Detail
+  rhythm : Detail
+
+-- what a detail comes to
+pub data Finding : Type 0 where
+  -- aim's value and its parts, then both without sliders
+  aimIs : Float → AimParts → Float → AimParts → Finding
+  -- the rhythm value, and how often an island was compared with a kept one
+  rhythmIs : Float → ℕ → Finding
+
+-- document 02, orders 7 and 12, from the records by place
+unfoldable pub detailOf : Detail → Settings → List ℕ → (ℕ → Record) → ℕ → Finding
+detailOf aimParts s b records j =
+    aimIs (aimAtPlace (object b) records j true) (partsAtPlace (object b) records j true)
+    (aimAtPlace (object b) records j false) (partsAtPlace (object b) records j false)
+detailOf rhythm s b records j =
+    rhythmIs (rhythmAtPlace (object b) records (reachOf (count b) j) j (s .«hit_window»)) (comparisonsAtPlace (object b) records j (s .«hit_window»))
+
+abbrev pub freshDetail : Detail → Settings → List ℕ → ℕ → Finding
+freshDetail d s b j = detailOf d s b (freshRecord s b) j
+
+abbrev pub detailFrom : Detail → Settings → List ℕ → List Float → ℕ → Finding
+detailFrom d s b rs j = detailOf d s b (Rows.recordAt rs) j
 
 -- ---- Figures: what is worked out from the values of all places, with scratch
 

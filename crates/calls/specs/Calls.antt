@@ -15,8 +15,8 @@ use Rattle.chart_opening.specs.declared.Verdict.{Verdict}
 use Rattle.chart_replacing.specs.Replace.{putObject}
 use Rattle.chart_inserting.specs.Insert.{insertObject, removeObject}
 use Rattle.calls.specs.Tables.{recordWidth, valueWidth, Borrowed, contents, lengthOf, tableAfter}
-use Rattle.calls.specs.Afresh.{Record, count, freshRecord, freshRow, freshValues, valuesFrom, Figure, Amount, freshFigure, figureFrom}
-use Rattle.calls.specs.Conditions.{Scratch, lengths, Operation, replace, insert, remove, readRecord, readValues, figure, opening, refusal}
+use Rattle.calls.specs.Afresh.{Record, count, freshRecord, freshRow, freshValues, valuesFrom, Finding, freshDetail, detailFrom, Figure, Amount, freshFigure, figureFrom}
+use Rattle.calls.specs.Conditions.{Scratch, lengths, Operation, replace, insert, remove, readRecord, readValues, readDetail, figure, opening, refusal}
 
 -- ---- Which entries are made anew
 
@@ -91,6 +91,7 @@ pub data Answer : Type 0 where
   removed : Answer
   recordIs : Record → Answer
   valuesAre : List Float → Answer
+  detailIs : Finding → Answer
   figureIs : Amount → Answer
 
 -- a chart with its two tables
@@ -156,6 +157,7 @@ execute (insert k o) st = record { answer = inserted; leaves = putIn k o st }
 execute (remove k) st = record { answer = removed; leaves = takenOut k st }
 execute (readRecord k) st = record { answer = recordIs (recordAt (st .records) k); leaves = st }
 execute (readValues k) st = record { answer = valuesAre (row valueWidth (st .values) k); leaves = st }
+execute (readDetail d k) st = record { answer = detailIs (detailFrom d (settingsOf (st .chart)) (st .chart) (st .records) k); leaves = st }
 execute (figure f l) st = record { answer = figureIs (figureFrom f (settingsOf (st .chart)) (st .chart) (st .values)); leaves = st }
 
 -- which condition it meets first
@@ -217,6 +219,7 @@ compute (insert k o) b = (inserted, insertObject k o b)
 compute (remove k) b = (removed, removeObject k b)
 compute (readRecord k) b = (recordIs (freshRecord (settingsOf b) b k), b)
 compute (readValues k) b = (valuesAre (freshValues (settingsOf b) b k), b)
+compute (readDetail d k) b = (detailIs (freshDetail d (settingsOf b) b k), b)
 compute (figure f l) b = (figureIs (freshFigure f (settingsOf b) b), b)
 
 unfoldable pub plain : Question → List ℕ → Answer × List ℕ

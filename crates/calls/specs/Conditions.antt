@@ -12,7 +12,7 @@ use Rattle.chart_opening.specs.declared.Verdict.{Verdict}
 use Rattle.chart_replacing.specs.Replace.{replaceVerdict}
 use Rattle.chart_inserting.specs.Insert.{insertVerdict, removeVerdict}
 use Rattle.calls.specs.Tables.{leastScratch, recordEntries, valueEntries, entriesOf}
-use Rattle.calls.specs.Afresh.{Figure}
+use Rattle.calls.specs.Afresh.{Detail, Figure, totals}
 
 -- the four slices of scratch that a figure is lent, one for each skill; and their lengths
 pub record Scratch : Type 0 where
@@ -33,14 +33,15 @@ lengths x = record { aim = length (x .aim); aimNoSliders = length (x .aimNoSlide
 unfoldable pub scratchShort : Lengths → Bool
 scratchShort l = ltb (l .aim) leastScratch || (ltb (l .aimNoSliders) leastScratch || (ltb (l .speed) leastScratch || ltb (l .flashlight) leastScratch))
 
--- what is asked of an opened chart: to put an object at a place, to put one in before a place or take one out, to read the record or the values of a place, and
--- to work out a figure
+-- what is asked of an opened chart: to put an object at a place, to put one in before a place or take one out, to read the record, the values or a detail of a
+-- place, and to work out a figure
 pub data Operation : Type 0 where
   replace : ℕ → List ℕ → Operation
   insert : ℕ → List ℕ → Operation
   remove : ℕ → Operation
   readRecord : ℕ → Operation
   readValues : ℕ → Operation
+  readDetail : Detail → ℕ → Operation
   figure : Figure → Lengths → Operation
 
 -- reading a place of a table with as many entries: "1, then 7, then 8 unless the place is 1 to N-1"
@@ -54,12 +55,22 @@ readConditions b entries k =
 abbrev pub readVerdict : List ℕ → ℕ → ℕ → Verdict
 readVerdict b entries k = firstOf (readConditions b entries k)
 
--- a figure over a value table with as many entries: "1 to 7, where 7 includes scratch"
-unfoldable pub figureConditions : List ℕ → ℕ → Bool → List Verdict
-figureConditions b entries short = chartConditions b ++ (tooFew entries (layoutOf b .n) ∷ refuseIf short Table ∷ [])
+-- over a value table with as many entries: "1 to 7, where 7 includes scratch"
+unfoldable pub sumConditions : List ℕ → ℕ → Bool → List Verdict
+sumConditions b entries short = chartConditions b ++ (tooFew entries (layoutOf b .n) ∷ refuseIf short Table ∷ [])
 
-abbrev pub figureVerdict : List ℕ → ℕ → Bool → Verdict
-figureVerdict b entries short = firstOf (figureConditions b entries short)
+abbrev pub sumVerdict : List ℕ → ℕ → Bool → Verdict
+sumVerdict b entries short = firstOf (sumConditions b entries short)
+
+-- what a figure tries behind them, of what comes with it, for a chart of n objects
+unfoldable pub askedConditions : Figure → ℕ → List Verdict
+askedConditions totals n = []
+
+unfoldable pub figureConditions : Figure → List ℕ → ℕ → Bool → List Verdict
+figureConditions f b entries short = sumConditions b entries short ++ askedConditions f (layoutOf b .n)
+
+abbrev pub figureVerdict : Figure → List ℕ → ℕ → Bool → Verdict
+figureVerdict f b entries short = firstOf (figureConditions f b entries short)
 
 -- opening, with the lengths of the two tables
 abbrev pub opening : ℕ → ℕ → List ℕ → Verdict
@@ -72,4 +83,5 @@ refusal (insert k o) r v b = insertVerdict b k o (entriesOf r v)
 refusal (remove k) r v b = removeVerdict b k (entriesOf r v)
 refusal (readRecord k) r v b = readVerdict b (recordEntries r) k
 refusal (readValues k) r v b = readVerdict b (valueEntries v) k
-refusal (figure f l) r v b = figureVerdict b (valueEntries v) (scratchShort l)
+refusal (readDetail d k) r v b = readVerdict b (recordEntries r) k
+refusal (figure f l) r v b = figureVerdict f b (valueEntries v) (scratchShort l)

@@ -5,8 +5,8 @@ use mathlib.Core.Logic.{_↔_}
 use mathlib.Core.List.{List, [], _∷_, _++_, map}
 use mathlib.Core.Bool.{Bool, true, false, cond}
 use Prim.Native.Nat.{ℕ, zero, suc, _+_, _-_, _*_, _<_, _≤_, max}
-use lib.Ieee.{Float}
-use lib.ListN.{length, take, drop, set}
+use lib.Ieee.{Float, nan}
+use lib.ListN.{length, take, drop, set, getD}
 use Rattle.num_floats.specs.Fields.{u32At}
 use Rattle.chart_fields.specs.Limits.{mostObjects}
 use Rattle.chart_fields.specs.Objects.{fieldsOf, badFields, falls}
@@ -23,14 +23,18 @@ use Rattle.chart_opening.specs.declared.Verdict.the-variants.{Accepted, Refused
 use Rattle.chart_replacing.specs.Replace.{objectBytes, putObject}
 use Rattle.chart_inserting.specs.Insert.{insertObject, removeObject, noRoom}
 use Rattle.chart_inserting.specs.OneMore.{countBytes, settingBytes, entryBytes}
+use Rattle.num_floats.specs.Compare.{maxOf}
+use Rattle.osu_records.specs.Sight.{View}
+use Rattle.eval_aim.specs.Aim.{ruleOf, sideOf, combineOf, partsOf, aimOf, partsAtPlace}
+use Rattle.eval_rhythm.specs.Comparisons.{ComparisonsBounded}
 use Rattle.skills.specs.declared.Skill.{Skill}
 use Rattle.skills.specs.Strains.{initialStrain, room, closeTo, reached, walk}
 use Rattle.skills.specs.Chart.{startAt}
 use Rattle.calls.specs.Simulation.{answers, after, Throughout}
 use Rattle.calls.specs.Tables.{recordWidth, valueWidth, entriesOf, Borrowed, own, IsOwn}
-use Rattle.calls.specs.Afresh.{Figure, count, freshRecord, freshRow, freshValues, freshStrains, freshFigure, strainsFrom, figureFrom}
-use Rattle.calls.specs.Conditions.{Scratch, Lengths, lengths, scratchShort, Operation, replace, insert, remove, readRecord, readValues, figure, opening, refusal}
-use Rattle.calls.specs.Calls.{Answer, refused, replaced, inserted, removed, recordIs, valuesAre, figureIs, State, state, opened, openAnswer, openLeaves, execute, verdictIn, outcome, zeros, scratchAfter, Call, lent, perform, question, plain}
+use Rattle.calls.specs.Afresh.{Detail, rhythm, Finding, aimIs, rhythmIs, Figure, count, object, freshRecord, freshRow, freshValues, freshStrains, freshDetail, freshFigure, strainsFrom, detailFrom, figureFrom}
+use Rattle.calls.specs.Conditions.{Scratch, Lengths, lengths, scratchShort, Operation, replace, insert, remove, readRecord, readValues, readDetail, figure, askedConditions, opening, refusal}
+use Rattle.calls.specs.Calls.{Answer, refused, replaced, inserted, removed, recordIs, valuesAre, detailIs, figureIs, State, state, opened, openAnswer, openLeaves, execute, verdictIn, outcome, zeros, scratchAfter, Call, lent, perform, question, plain}
 
 -- ---- The edits of a list of calls
 
@@ -65,6 +69,7 @@ isCarriedOut inserted = true
 isCarriedOut removed = true
 isCarriedOut (recordIs x) = true
 isCarriedOut (valuesAre x) = true
+isCarriedOut (detailIs x) = true
 isCarriedOut (figureIs x) = true
 
 unfoldable pub withEdit : Operation → Answer → List Edit → List Edit
@@ -73,6 +78,7 @@ withEdit (insert k o) x es = cond (isCarriedOut x) (putBefore k o ∷ es) es
 withEdit (remove k) x es = cond (isCarriedOut x) (takeOut k ∷ es) es
 withEdit (readRecord k) x es = es
 withEdit (readValues k) x es = es
+withEdit (readDetail d k) x es = es
 withEdit (figure f l) x es = es
 
 -- the edits among the calls that were answered as accepted
@@ -93,13 +99,14 @@ pub record Kept (b₀ : List ℕ) (es : List Edit) (b : List ℕ) : Type 0 where
 
 -- ---- Tables
 
--- the tables that an operation works on are the opening's: a reading works on the one that it reads, a figure on the values
+-- the tables that an operation works on are the opening's: a reading works on the one that it reads, a detail on the records, a figure on the values
 unfoldable pub OwnTables : Operation → Borrowed → Borrowed → Type 0
 OwnTables (replace k o) t u = IsOwn t × IsOwn u
 OwnTables (insert k o) t u = IsOwn t × IsOwn u
 OwnTables (remove k) t u = IsOwn t × IsOwn u
 OwnTables (readRecord k) t u = IsOwn t
 OwnTables (readValues k) t u = IsOwn u
+OwnTables (readDetail d k) t u = IsOwn t
 OwnTables (figure f l) t u = IsOwn u
 
 -- entries 0 and from n on hold in st what they held in st₀
@@ -117,6 +124,11 @@ pub record Fresh (s : Settings) (st : State) : Type 0 where
 abbrev pub settingsIn : State → Settings
 settingsIn st = settingsOf (st .chart)
 
+-- the value in a detail
+unfoldable pub valueFound : Finding → Float
+valueFound (aimIs x p y q) = x
+valueFound (rhythmIs x n) = x
+
 -- ---- Demand 3's list
 
 -- "each lent [..], if carried out, the tables which that opening filled, as they then stand"
@@ -133,12 +145,20 @@ pub record Sound (st₀ : State) (cs : List Call) (st : State) (xs : List Answer
   pub kept : Kept (st₀ .chart) (edits cs xs) (st .chart)
   -- the chart would still open, into any tables that are long enough
   pub opens : (r v : ℕ) → recordWidth * count (st .chart) ≤ r → valueWidth * count (st .chart) ≤ v → opening r v (st .chart) ≡ Accepted
-  -- records, values, strains and figures equal those worked out afresh; a record is what reading answers
+  -- records, values, strains, details and figures equal those worked out afresh; a record is what reading answers
   pub fresh : Fresh (settingsIn st) st
   pub reads : (j : ℕ) → 1 ≤ j → j < count (st .chart) → recordAt (st .records) j ≡ freshRecord (settingsIn st) (st .chart) j
   pub strains : (j : ℕ) → 1 ≤ j → j < count (st .chart)
       → strainsFrom (settingsIn st) (st .chart) (st .values) j ≡ freshStrains (settingsIn st) (st .chart) j
+  pub details : (d : Detail) (j : ℕ) → 1 ≤ j → j < count (st .chart)
+      → detailFrom d (settingsIn st) (st .chart) (st .records) j ≡ freshDetail d (settingsIn st) (st .chart) j
   pub figures : (f : Figure) → figureFrom f (settingsIn st) (st .chart) (st .values) ≡ freshFigure f (settingsIn st) (st .chart)
+  -- aim's parts at a place, put together by the Rust's last lines, are the value that the table holds there
+  pub aim : (j : ℕ) → 1 ≤ j → j < count (st .chart) → (sliders : Bool)
+      → combineOf (partsAtPlace (object (st .chart)) (recordAt (st .records)) j sliders) sliders ≡ getD (row valueWidth (st .values) j) (cond sliders 0 1) nan
+  -- and the rhythm value that is read with its comparisons is the one that the table holds, given without counting
+  pub rhythm : (j : ℕ) → 1 ≤ j → j < count (st .chart)
+      → valueFound (detailFrom rhythm (settingsIn st) (st .chart) (st .records) j) ≡ getD (row valueWidth (st .values) j) 3 nan
   -- opening a copy of the chart, into any other tables, gives what the tables hold
   pub again : (rs vs : List Float) → let copy : State = state (st .chart) rs vs in
       openAnswer copy ≡ Accepted → (j : ℕ) → 1 ≤ j → j < count (st .chart)
@@ -273,6 +293,7 @@ countAfter (insert k o) n = suc n
 countAfter (remove k) n = n - 1
 countAfter (readRecord k) n = n
 countAfter (readValues k) n = n
+countAfter (readDetail d k) n = n
 countAfter (figure f l) n = n
 
 -- ---- How the promises of the public functions come in
@@ -294,6 +315,8 @@ pub record Claims : Type 0 where
       → outcome (readRecord k) (state b rs vs) .answer ≡ outcome (readRecord k) (state b rs []) .answer
   pub values-alone : (k : ℕ) (b : List ℕ) (rs vs : List Float)
       → outcome (readValues k) (state b rs vs) .answer ≡ outcome (readValues k) (state b [] vs) .answer
+  pub detail-alone : (d : Detail) (k : ℕ) (b : List ℕ) (rs vs : List Float)
+      → outcome (readDetail d k) (state b rs vs) .answer ≡ outcome (readDetail d k) (state b rs []) .answer
   pub figure-alone : (f : Figure) (l : Lengths) (b : List ℕ) (rs vs : List Float)
       → outcome (figure f l) (state b rs vs) .answer ≡ outcome (figure f l) (state b [] vs) .answer
   -- every list of operations on the opening's own tables is such a list
@@ -308,6 +331,7 @@ pub record Claims : Type 0 where
   pub opening-reads : (st : State) → openLeaves st .chart ≡ st .chart
   pub record-reads : (k : ℕ) (st : State) → outcome (readRecord k) st .leaves ≡ st
   pub values-reads : (k : ℕ) (st : State) → outcome (readValues k) st .leaves ≡ st
+  pub detail-reads : (d : Detail) (k : ℕ) (st : State) → outcome (readDetail d k) st .leaves ≡ st
   pub figure-reads : (f : Figure) (l : Lengths) (st : State) → outcome (figure f l) st .leaves ≡ st
   pub counts : (a : Operation) (st : State) → verdictIn a st ≡ Accepted → count (execute a st .leaves .chart) ≡ countAfter a (count (st .chart))
   -- a replacement at place k, accepted or refused, in any state and whatever tables it borrows
@@ -333,18 +357,25 @@ pub record Claims : Type 0 where
   pub remove-placed : (k r v : ℕ) (b : List ℕ) (q : Refusal) → refusal (remove k) r v b ≡ Refused q → RemovePlaced k r v b q
   pub record-placed : (k r v : ℕ) (b : List ℕ) (q : Refusal) → refusal (readRecord k) r v b ≡ Refused q → refusalPlace q ≡ 0
   pub values-placed : (k r v : ℕ) (b : List ℕ) (q : Refusal) → refusal (readValues k) r v b ≡ Refused q → refusalPlace q ≡ 0
+  pub detail-placed : (d : Detail) (k r v : ℕ) (b : List ℕ) (q : Refusal) → refusal (readDetail d k) r v b ≡ Refused q → refusalPlace q ≡ 0
   pub figure-placed : (f : Figure) (l : Lengths) (r v : ℕ) (b : List ℕ) (q : Refusal) → refusal (figure f l) r v b ≡ Refused q → Placed b q
   pub opening-limit : (r v : ℕ) (b : List ℕ) (q : Refusal) → opening r v b ≡ Refused q → refusalPlace q ≤ mostObjects
   pub place-limit : (a : Operation) (r v : ℕ) (b : List ℕ) (q : Refusal) → refusal a r v b ≡ Refused q → refusalPlace q ≤ mostObjects
   pub refusal-told : (q q' : Refusal) → refusalNumber q ≡ refusalNumber q' → refusalPlace q ≡ refusalPlace q' → q ≡ q'
-  -- a figure is worked out exactly where the chart meets none of 1 to 6, the values have N entries and each skill has 8,192 numbers of scratch
+  -- a figure is worked out exactly where the chart meets none of 1 to 6, the values have N entries, each skill has 8,192 numbers of scratch, and what comes with
+  -- the call passes
   pub figure-accepted : (f : Figure) (l : Lengths) (r v : ℕ) (b : List ℕ)
       → (refusal (figure f l) r v b ≡ Accepted)
-      ↔ (Opens b × (valueWidth * count b ≤ v) × (scratchShort l ≡ false))
+      ↔ (Opens b × (valueWidth * count b ≤ v) × (scratchShort l ≡ false) × (firstOf (askedConditions f (count b)) ≡ Accepted))
   -- "Carried out, it leaves all scratch 0; refused, as it was lent"
   pub scratch-cleared : (f : Figure) (x : Scratch) (st : State) → verdictIn (figure f (lengths x)) st ≡ Accepted → scratchAfter f st x
       ≡ record { aim = zeros (x .aim); aimNoSliders = zeros (x .aimNoSliders); speed = zeros (x .speed); flashlight = zeros (x .flashlight) }
   pub scratch-kept : (f : Figure) (x : Scratch) (st : State) (q : Refusal) → verdictIn (figure f (lengths x)) st ≡ Refused q → scratchAfter f st x ≡ x
+  -- aim's parts, put together by the Rust's last lines, are its value, from any records; and the rule names the side that the last max takes
+  pub aim-together : (v : View) (before : ℕ) (sliders : Bool) → combineOf (partsOf v before sliders) sliders ≡ aimOf v before sliders
+  pub aim-rule : (acute wide : Float) → maxOf acute wide ≡ sideOf (ruleOf acute wide) acute wide
+  -- at no place of any objects and records are there more than 406 comparisons
+  pub rhythm-bounded : ComparisonsBounded
   -- the section walk of a chart that opens never stops for the bound on sections: with any larger bound it is the same
   pub sections : (b : List ℕ) → Opens b → (k : Skill) (strains : ℕ → Float) (j m : ℕ) → suc j < count b → room ≤ m
       → let starts = startAt b (layoutOf b) (settingsOf b .«clock_rate») in

@@ -1,21 +1,19 @@
--- What an accepted chart tells of its tables, and of scratch. Assumes nothing.
+-- What an accepted chart tells of its tables. Assumes nothing.
 use Prim.Native.Nat.{ℕ, _*_, _≤_}
 use mathlib.Core.Path.{_≡_}
 use mathlib.Core.List.{List}
 use native.Mathlib.Omega.{arith}
 use lib.ListN.{length}
 use Rattle.chart_fields.specs.Limits.{headerSize, mostObjects}
-use Rattle.chart_fields.specs.Objects.{Holds}
 use Rattle.chart_opening.specs.Header.{layoutOf}
 use Rattle.chart_opening.specs.Accepted.{header-ok}
 use Rattle.chart_opening.specs.declared.Verdict.the-variants.{Accepted}
-use Rattle.chart_opening.proofs.Header.{parts, holds}
+use Rattle.chart_opening.proofs.Header.{parts}
 use Rattle.osu_object.specs.Osu.{Ready}
 use Rattle.osu_difficulty_object.proofs.Accepted.{chart-ready}
-use Rattle.calls.specs.Tables.{recordWidth, valueWidth, valueEntries}
-use Rattle.calls.specs.Afresh.{totals}
-use Rattle.calls.specs.Conditions.{Lengths, scratchShort, figure, figureVerdict, opening, refusal}
-use Rattle.calls.proofs.Refusals.{opening-met, figure-accepted, Enough, long}
+use Rattle.calls.specs.Tables.{recordWidth, valueWidth}
+use Rattle.calls.specs.Conditions.{opening}
+use Rattle.calls.proofs.Refusals.{opening-met}
 
 -- a chart with tables of r and v numbers
 pub record Fits (b : List ℕ) (r v : ℕ) : Type 0 where
@@ -30,17 +28,3 @@ fits b r v e =
     let (o, room) = opening-met r v b e in
     let ready : Ready b (layoutOf b) = chart-ready b o in
     record { ready = ready; long = parts b (header-ok b o) .long; few = ready .holds .few; records = room .records; values = room .values }
-
--- a chart with a value table of v numbers and scratch of these lengths
-pub record Sums (b : List ℕ) (v : ℕ) (l : Lengths) : Type 0 where
-  pub long : headerSize ≤ length b
-  pub holds : Holds b (layoutOf b)
-  pub rows : valueWidth * layoutOf b .n ≤ v
-  pub scratch : Enough l
-
-pub sums : (b : List ℕ) (v : ℕ) (l : Lengths) → figureVerdict b (valueEntries v) (scratchShort l) ≡ Accepted → Sums b v l
-unfolding refusal
-sums b v l e =
-    let (o, rows, short) = figure-accepted totals l 0 v b .0 e in
-    let h = header-ok b o in
-    record { long = parts b h .long; holds = holds b h; rows = rows; scratch = long l short }

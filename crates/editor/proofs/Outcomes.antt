@@ -1,12 +1,11 @@
--- A call, by the condition that it meets: refused it changes nothing, accepted it is carried out. Assumes nothing.
-use Prim.Native.Nat.{ℕ, _+_, _-_, _/_, min, max}
+-- An edit, by the condition that it meets: refused it changes nothing, accepted it is carried out. Assumes nothing.
+use Prim.Native.Nat.{ℕ, _-_, min, max}
 use mathlib.Core.Path.{_≡_, refl, ap, _∙_}
-use mathlib.Core.List.{List, []}
+use mathlib.Core.List.{List}
 use lib.Ieee.{Float}
 use lib.ListN.{length}
-use Rattle.num_tables.specs.Parts.{row, fill, rowsUp, rowsDown}
+use Rattle.num_tables.specs.Parts.{fill, rowsUp, rowsDown}
 use Rattle.osu_records.specs.Fill.{filled, filledRange}
-use Rattle.osu_records.specs.Rows.{recordAt}
 use Rattle.chart_opening.specs.Header.{layoutOf, settingsOf}
 use Rattle.chart_opening.specs.Conditions.{ifAccepted}
 use Rattle.chart_opening.specs.declared.Settings.{Settings}
@@ -16,11 +15,9 @@ use Rattle.chart_opening.specs.declared.Verdict.the-variants.{Accepted, Refused
 use Rattle.chart_replacing.specs.Replace.{putObject, replaceVerdict}
 use Rattle.chart_inserting.specs.Insert.{insertObject, removeObject, insertVerdict, removeVerdict}
 use Rattle.eval_values.specs.Values.{valuesIn}
-use Rattle.skills.specs.Chart as Chart
-use Rattle.calls.specs.Tables.{recordWidth, valueWidth, recordEntries, valueEntries, entriesOf}
-use Rattle.calls.specs.Afresh.{totals, totalsAre, totalsOf, figureOf}
-use Rattle.calls.specs.Conditions.{Scratch, lengths, replace, insert, remove, readRecord, readValues, figure, scratchShort, readVerdict, figureVerdict, opening, refusal}
-use Rattle.calls.specs.Calls.{openStart, openMade, replacedRecords, replacedValues, insertedRecords, insertedValues, removedRecords, removedValues, firstMoved, recordsStart, recordsMade, valuesStart, valuesMade, openRecords, openValues, editRecords, editValues, refused, replaced, inserted, removed, recordIs, valuesAre, figureIs, Outcome, State, state, result, refuse, opened, openAnswer, openLeaves, edited, putIn, takenOut, execute, verdictIn, outcome, cleared, scratchAfter}
+use Rattle.calls.specs.Tables.{recordWidth, valueWidth, entriesOf}
+use Rattle.calls.specs.Conditions.{replace, insert, remove, opening, refusal}
+use Rattle.calls.specs.Calls.{openStart, openMade, replacedRecords, replacedValues, insertedRecords, insertedValues, removedRecords, removedValues, firstMoved, recordsStart, recordsMade, valuesStart, valuesMade, openRecords, openValues, editRecords, editValues, refused, replaced, inserted, removed, Outcome, State, state, result, refuse, opened, openAnswer, openLeaves, edited, putIn, takenOut, execute, verdictIn, outcome}
 use Rattle.calls.proofs.Alone.{carried-out, refused-as}
 
 -- ---- What the loops leave is what opening and replacing leave
@@ -107,39 +104,3 @@ module _ (b : List ℕ) (rs vs : List Float) where
     pub remove-accepted : removeVerdict b k (entriesOf (length rs) (length vs)) ≡ Accepted → outcome (remove k) (state b rs vs) ≡ taken-out (removeObject k b)
     unfolding verdictIn refusal execute takenOut
     remove-accepted e = carried-out (remove k) (state b rs vs) e
-
--- ---- Readings
-
-module _ (b : List ℕ) (t : List Float) (k : ℕ) where
-  pub record-refused : (r : Refusal) → readVerdict b (recordEntries (length t)) k ≡ Refused r → outcome (readRecord k) (state b t []) ≡ result (refused r) b t []
-  unfolding verdictIn refusal refuse
-  record-refused r e = refused-as (readRecord k) (state b t []) r e
-
-  pub record-read : readVerdict b (recordEntries (length t)) k ≡ Accepted → outcome (readRecord k) (state b t []) ≡ result (recordIs (recordAt t k)) b t []
-  unfolding verdictIn refusal execute
-  record-read e = carried-out (readRecord k) (state b t []) e
-
-  pub values-refused : (r : Refusal) → readVerdict b (valueEntries (length t)) k ≡ Refused r → outcome (readValues k) (state b [] t) ≡ result (refused r) b [] t
-  unfolding verdictIn refusal refuse
-  values-refused r e = refused-as (readValues k) (state b [] t) r e
-
-  pub values-read : readVerdict b (valueEntries (length t)) k ≡ Accepted → outcome (readValues k) (state b [] t) ≡ result (valuesAre (row valueWidth t k)) b [] t
-  unfolding verdictIn refusal execute
-  values-read e = carried-out (readValues k) (state b [] t) e
-
--- ---- Totals
-
-module _ (b : List ℕ) (vs : List Float) (x : Scratch) where
-  abbrev asked : Verdict
-  asked = figureVerdict b (valueEntries (length vs)) (scratchShort (lengths x))
-
-  pub totals-refused : (r : Refusal) → asked ≡ Refused r
-      → (outcome (figure totals (lengths x)) (state b [] vs) ≡ result (refused r) b [] vs) × (scratchAfter totals (state b [] vs) x ≡ x)
-  unfolding verdictIn refusal refuse scratchAfter ifAccepted
-  totals-refused r e = (refused-as (figure totals (lengths x)) (state b [] vs) r e, ap (λ (v : Verdict). ifAccepted v (cleared x) (λ q. x)) e)
-
-  pub totals-carried-out : asked ≡ Accepted
-      → (outcome (figure totals (lengths x)) (state b [] vs) ≡ result (figureIs (totalsAre (Chart.totalsOf b (layoutOf b) (settingsOf b .«clock_rate») vs))) b [] vs)
-      × (scratchAfter totals (state b [] vs) x ≡ cleared x)
-  unfolding verdictIn refusal execute figureOf totalsOf scratchAfter ifAccepted
-  totals-carried-out e = (carried-out (figure totals (lengths x)) (state b [] vs) e, ap (λ (v : Verdict). ifAccepted v (cleared x) (λ q. x)) e)

@@ -1,58 +1,24 @@
-// The station's calls on a chart and its two tables. Nothing is assumed of the caller: each call answers the first condition of its list
-// that is met and changes nothing, or is carried out.
+// The station's edits of a chart and its two tables: open, replace, insert, remove. Nothing is assumed of the caller: each call answers the first condition of its
+// list that is met and changes nothing, or is carried out.
 ghost use mathlib.Core.Path.{_≡_};
-ghost use mathlib.Core.List.{[]};
 ghost use Prim.Native.Nat.{_+_, _-_, _*_, _<_, _≤_, min, max};
 ghost use lib.ListN.{length};
 ghost use Rattle.chart_opening.specs.Header.{layoutOf, settingsOf};
 ghost use Rattle.chart_opening.specs.declared.Verdict.the-variants.{Accepted};
 ghost use Rattle.calls.specs.Tables.{recordWidth, valueWidth, entriesOf};
-ghost use Rattle.calls.specs.Afresh as figures;
 ghost use Rattle.calls.specs.Conditions as ops;
-ghost use Rattle.calls.specs.Conditions.{lengths, scratchShort, readVerdict, figureVerdict, opening};
+ghost use Rattle.calls.specs.Conditions.{opening};
 ghost use Rattle.num_tables.specs.Parts.{rowsUp, rowsDown};
-ghost use Rattle.calls.specs.Calls.{state, result, opened, openAnswer, openLeaves, outcome, scratchAfter, editRecords, editValues};
+ghost use Rattle.calls.specs.Calls.{state, result, opened, openAnswer, openLeaves, outcome, editRecords, editValues};
 ghost use Rattle.calls.specs.Calls.{insertedRecords, insertedValues, removedRecords, removedValues, firstMoved};
-ghost use Rattle.editor.specs.Answers.{replaceAnswer, insertAnswer, removeAnswer, recordAnswer, valuesAnswer, totalsAnswer, scratchOf};
-use chart_opening::Refusal;
+ghost use Rattle.editor.specs.Answers.{replaceAnswer, insertAnswer, removeAnswer};
 use chart_opening::Verdict;
-use eval_values::Values;
-use osu_difficulty_object::OsuDifficultyObject;
-use skills::Skills;
-
-// A record of the table, or why it is not read.
-pub enum RecordAnswer {
-    Record(OsuDifficultyObject),
-    Refused(Refusal),
-}
-
-// The five values of a place, or why they are not read.
-pub enum ValuesAnswer {
-    Values(Values),
-    Refused(Refusal),
-}
-
-// The four totals, or why they are not worked out.
-pub enum TotalsAnswer {
-    Totals(Skills),
-    Refused(Refusal),
-}
-
-// Numbers of an entry of each table, and the least scratch of a skill.
-pub const RECORD_WIDTH: usize = 16;
-
-pub const VALUE_WIDTH: usize = 5;
-
-pub const LEAST_SCRATCH: usize = 8192;
-
-// Where the settings stand in a header.
-const SETTINGS_AT: usize = 32;
 
 // How many whole entries both tables have.
 fn entries_in(records: usize, values: usize) -> usize
     ensures { λ r. ⌜ r ≡ entriesOf records values ⌝ }
 {
-    smaller(records / RECORD_WIDTH, values / VALUE_WIDTH)
+    smaller(records / calls::RECORD_WIDTH, values / calls::VALUE_WIDTH)
 }
 
 // The later of 1 and k.
@@ -82,7 +48,7 @@ fn fill_tables(chart: &[u8], records: &mut [f64], values: &mut [f64])
     ensures values { λ _. ⌜ now (values .exit) ≡ opened (state (now (chart .entry)) (now (records .entry)) (now (values .entry))) .values ⌝ }
 {
     let lay = chart_opening::layout_of(chart);
-    let set = chart_opening::settings_at(chart, SETTINGS_AT);
+    let set = chart_opening::settings_at(chart, calls::SETTINGS_AT);
     osu_records::fill(chart, lay, set, records);
     eval_values::fill_values(values, records, chart, lay, set, 1, lay.n);
 }
@@ -119,7 +85,7 @@ fn bring_up_to_date(
         ≡ editValues (settingsOf (now (chart .entry))) (now (chart .entry)) place «values_end» (now (records .exit)) (now (values .entry)) ⌝ }
 {
     let lay = chart_opening::layout_of(chart);
-    let set = chart_opening::settings_at(chart, SETTINGS_AT);
+    let set = chart_opening::settings_at(chart, calls::SETTINGS_AT);
     let n = lay.n;
     osu_records::fill_range(
         chart,
@@ -181,9 +147,9 @@ fn records_up(records: &mut [f64], from: usize, to: usize)
     if from < to {
         num_tables::move_numbers_up(
             records,
-            RECORD_WIDTH * from,
-            RECORD_WIDTH * (from + 1),
-            RECORD_WIDTH * (to - from),
+            calls::RECORD_WIDTH * from,
+            calls::RECORD_WIDTH * (from + 1),
+            calls::RECORD_WIDTH * (to - from),
         );
     }
 }
@@ -197,9 +163,9 @@ fn records_down(records: &mut [f64], from: usize, to: usize)
     if next < to {
         num_tables::move_numbers_down(
             records,
-            RECORD_WIDTH * next,
-            RECORD_WIDTH * from,
-            RECORD_WIDTH * (to - next),
+            calls::RECORD_WIDTH * next,
+            calls::RECORD_WIDTH * from,
+            calls::RECORD_WIDTH * (to - next),
         );
     }
 }
@@ -212,9 +178,9 @@ fn values_up(values: &mut [f64], from: usize, to: usize)
     if from < to {
         num_tables::move_numbers_up(
             values,
-            VALUE_WIDTH * from,
-            VALUE_WIDTH * (from + 1),
-            VALUE_WIDTH * (to - from),
+            calls::VALUE_WIDTH * from,
+            calls::VALUE_WIDTH * (from + 1),
+            calls::VALUE_WIDTH * (to - from),
         );
     }
 }
@@ -228,9 +194,9 @@ fn values_down(values: &mut [f64], from: usize, to: usize)
     if next < to {
         num_tables::move_numbers_down(
             values,
-            VALUE_WIDTH * next,
-            VALUE_WIDTH * from,
-            VALUE_WIDTH * (to - next),
+            calls::VALUE_WIDTH * next,
+            calls::VALUE_WIDTH * from,
+            calls::VALUE_WIDTH * (to - next),
         );
     }
 }
@@ -304,113 +270,6 @@ pub fn remove(chart: &mut [u8], place: usize, records: &mut [f64], values: &mut 
         Verdict::Accepted => {
             remove_rows(chart, place, records, values);
             Verdict::Accepted
-        }
-    }
-}
-
-// Conditions 1, 7 and 8 of a reading, for a table of as many entries.
-fn check_reading(chart: &[u8], entries: usize, place: usize) -> Verdict
-    ensures { λ r. ⌜ r ≡ readVerdict (now (chart .entry)) entries place ⌝ }
-{
-    if !chart_opening::header_ok(chart) {
-        return Verdict::Refused(Refusal::Header);
-    }
-    let lay = chart_opening::layout_of(chart);
-    if entries < lay.n {
-        return Verdict::Refused(Refusal::Table);
-    }
-    if (0 < place) & (place < lay.n) {
-        return Verdict::Accepted;
-    }
-    Verdict::Refused(Refusal::Place)
-}
-
-// The record of a place, as the table has it.
-pub fn read_record(chart: &[u8], records: &[f64], place: usize) -> RecordAnswer
-    ensures { λ r. ⌜ result (recordAnswer r) (now (chart .exit)) (now (records .exit)) []
-        ≡ outcome (ops.readRecord place) (state (now (chart .entry)) (now (records .entry)) []) ⌝ }
-{
-    match check_reading(chart, records.len() / RECORD_WIDTH, place) {
-        Verdict::Refused(r) => RecordAnswer::Refused(r),
-        Verdict::Accepted => RecordAnswer::Record(osu_records::record_at(records, place)),
-    }
-}
-
-// The values of a place, as the table has them.
-pub fn read_values(chart: &[u8], values: &[f64], place: usize) -> ValuesAnswer
-    ensures { λ r. ⌜ result (valuesAnswer r) (now (chart .exit)) [] (now (values .exit))
-        ≡ outcome (ops.readValues place) (state (now (chart .entry)) [] (now (values .entry))) ⌝ }
-{
-    match check_reading(chart, values.len() / VALUE_WIDTH, place) {
-        Verdict::Refused(r) => ValuesAnswer::Refused(r),
-        Verdict::Accepted => ValuesAnswer::Values(eval_values::row_at(values, place)),
-    }
-}
-
-// Whether a slice of scratch is too short.
-fn scratch_short(aim: usize, aim_no_sliders: usize, speed: usize, flashlight: usize) -> bool
-    ensures { λ r. ⌜ r ≡ scratchShort (record { aim = aim; aimNoSliders = «aim_no_sliders»; speed = speed; flashlight = flashlight }) ⌝ }
-{
-    (aim < LEAST_SCRATCH)
-        | ((aim_no_sliders < LEAST_SCRATCH)
-            | ((speed < LEAST_SCRATCH) | (flashlight < LEAST_SCRATCH)))
-}
-
-// Conditions 1 to 7 of a figure, for a value table of as many entries.
-pub fn check_figure(chart: &[u8], entries: usize, short: bool) -> Verdict
-    ensures { λ r. ⌜ r ≡ figureVerdict (now (chart .entry)) entries short ⌝ }
-{
-    match chart_opening::check(chart, entries) {
-        Verdict::Refused(r) => Verdict::Refused(r),
-        Verdict::Accepted => {
-            if short {
-                Verdict::Refused(Refusal::Table)
-            } else {
-                Verdict::Accepted
-            }
-        }
-    }
-}
-
-// The four totals, over the values in the table; times come from the chart. Carried out, all scratch is 0.
-pub fn totals(
-    chart: &[u8],
-    values: &[f64],
-    aim: &mut [f64],
-    aim_no_sliders: &mut [f64],
-    speed: &mut [f64],
-    flashlight: &mut [f64],
-) -> TotalsAnswer
-    ensures answer { λ r. ⌜ result (totalsAnswer r) (now (chart .exit)) [] (now (values .exit))
-        ≡ outcome (ops.figure figures.totals
-        (lengths (scratchOf (now (aim .entry)) (now («aim_no_sliders» .entry)) (now (speed .entry)) (now (flashlight .entry)))))
-        (state (now (chart .entry)) [] (now (values .entry))) ⌝ }
-    ensures scratch { λ _. ⌜ scratchOf (now (aim .exit)) (now («aim_no_sliders» .exit)) (now (speed .exit)) (now (flashlight .exit))
-        ≡ scratchAfter figures.totals (state (now (chart .entry)) [] (now (values .entry)))
-        (scratchOf (now (aim .entry)) (now («aim_no_sliders» .entry)) (now (speed .entry)) (now (flashlight .entry))) ⌝ }
-{
-    let short = scratch_short(
-        aim.len(),
-        aim_no_sliders.len(),
-        speed.len(),
-        flashlight.len(),
-    );
-    match check_figure(chart, values.len() / VALUE_WIDTH, short) {
-        Verdict::Refused(r) => TotalsAnswer::Refused(r),
-        Verdict::Accepted => {
-            let lay = chart_opening::layout_of(chart);
-            let clock = chart_opening::settings_at(chart, SETTINGS_AT).clock_rate;
-            let t = skills::totals(
-                chart,
-                lay,
-                clock,
-                values,
-                aim,
-                aim_no_sliders,
-                speed,
-                flashlight,
-            );
-            TotalsAnswer::Totals(t)
         }
     }
 }

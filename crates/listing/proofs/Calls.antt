@@ -1,4 +1,4 @@
--- What the calls of crate editor answer on a chart within the limit: opening as conditions 1 to 6 say, readings and totals what the filled table holds.
+-- What the calls answer on a chart within the limit: opening as conditions 1 to 6 say, readings and totals what the filled table holds.
 -- Assumes nothing.
 use Prim.Native.Nat.{ℕ, _+_, _*_, _/_, _≤_, _<_}
 use native.Mathlib.Omega.{arith}
@@ -21,17 +21,18 @@ use Rattle.eval_values.specs.Values.{rowOf}
 use Rattle.skills.specs.declared.Skills.{Skills}
 use Rattle.calls.specs.Tables.{recordWidth, valueWidth}
 use Rattle.calls.specs.Afresh.{freshValues, totals, Amount, totalsAre, totalsOf, figureOf}
-use Rattle.calls.specs.Conditions.{Scratch, lengths, scratchShort, readValues, figure, readConditions, opening, refusal}
+use Rattle.calls.specs.Conditions.{Scratch, lengths, scratchShort, readValues, figure, readConditions, askedConditions, opening, refusal}
 use Rattle.calls.specs.Calls.{Answer, refused, valuesAre, figureIs, State, state, opened, openAnswer, openLeaves, execute, verdictIn, outcome}
 use Rattle.calls.specs.Statement.{Fresh}
 use Rattle.calls.proofs.Refusals.{opening-none, figure-accepted}
 use Rattle.calls.proofs.Locality.{open-fresh, open-values-length, totals-local}
 use Rattle.calls.proofs.Alone.{carried-out}
-use Rattle.editor.specs.Answers.{valuesAnswer, totalsAnswer}
-use Rattle.editor.specs.declared.ValuesAnswer.{ValuesAnswer}
-use Rattle.editor.specs.declared.TotalsAnswer.{TotalsAnswer}
-use Rattle.editor.specs.declared.ValuesAnswer.the-variants as OfValues
-use Rattle.editor.specs.declared.TotalsAnswer.the-variants as OfTotals
+use Rattle.readings.specs.Answers.{valuesAnswer}
+use Rattle.figures.specs.Answers.{totalsAnswer}
+use Rattle.readings.specs.declared.ValuesAnswer.{ValuesAnswer}
+use Rattle.figures.specs.declared.TotalsAnswer.{TotalsAnswer}
+use Rattle.readings.specs.declared.ValuesAnswer.the-variants as OfValues
+use Rattle.figures.specs.declared.TotalsAnswer.the-variants as OfTotals
 use Rattle.lines.specs.Lines.{refusalText}
 use Rattle.listing.specs.List.{limit, mostListed, metText, totalsAfresh, afreshText, chartText, Filled, Tables, ScratchRoom}
 
@@ -126,8 +127,8 @@ module _ (b : List ℕ) (vs : List Float) (f : Filled b vs) where
         rw (le-ltb (length (x .aim)) 8192 (room .aim-room), le-ltb (length (x .aimNoSliders)) 8192 (room .no-sliders-room), le-ltb (length (x .speed)) 8192 (room .speed-room), le-ltb (length (x .flashlight)) 8192 (room .flashlight-room))
 
     totals-not-refused : verdictIn (figure totals (lengths x)) (state b [] vs) ≡ Accepted
-    unfolding verdictIn
-    totals-not-refused = figure-accepted totals (lengths x) 0 (length vs) b .1 (f .opens, f .rows, long)
+    unfolding verdictIn askedConditions firstOf
+    totals-not-refused = figure-accepted totals (lengths x) 0 (length vs) b .1 (f .opens, f .rows, long, refl)
 
     summing : outcome (figure totals (lengths x)) (state b [] vs) .answer ≡ figureIs (totalsAre (totalsOf (settingsOf b) b (row valueWidth vs)))
     unfolding execute figureOf

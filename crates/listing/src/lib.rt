@@ -8,8 +8,8 @@ ghost use Rattle.lines.specs.Lines.{placeText, totalsText};
 ghost use Rattle.listing.specs.List.{limit, placesText, totalsAfresh, afreshText, chartText, listText, Filled, Tables, ScratchRoom};
 use chart_opening::Refusal;
 use chart_opening::Verdict;
-use editor::TotalsAnswer;
-use editor::ValuesAnswer;
+use figures::TotalsAnswer;
+use readings::ValuesAnswer;
 
 // The longest chart that is listed, in bytes.
 const LIMIT: usize = 32768;
@@ -17,9 +17,9 @@ const LIMIT: usize = 32768;
 // The objects that a chart of so many bytes can have, and the numbers of each table for as many.
 const OBJECTS: usize = 583;
 
-const RECORDS: usize = editor::RECORD_WIDTH * OBJECTS;
+const RECORDS: usize = calls::RECORD_WIDTH * OBJECTS;
 
-const VALUES: usize = editor::VALUE_WIDTH * OBJECTS;
+const VALUES: usize = calls::VALUE_WIDTH * OBJECTS;
 
 // The numbers that totals need for each skill.
 const SCRATCH: usize = 8192;
@@ -29,7 +29,7 @@ fn put_place(out: &mut [u8], at: usize, chart: &[u8], values: &[f64], j: usize) 
     requires { ⌜ Filled (now chart) (now values) × (1 ≤ j) × (j < layoutOf (now chart) .n) ⌝ }
     ensures { λ r. ⌜ Puts (placeText j (row 5 (now (values .entry)) j)) (now (out .entry)) at (now (out .exit)) r ⌝ }
 {
-    match editor::read_values(chart, values, j) {
+    match readings::read_values(chart, values, j) {
         ValuesAnswer::Refused(r) => lines::put_refusal(out, at, r),
         ValuesAnswer::Values(v) => lines::put_values(out, at, j, v),
     }
@@ -64,7 +64,7 @@ fn put_totals(
         × ScratchRoom (length (now aim)) (length (now «aim_no_sliders»)) (length (now speed)) (length (now flashlight)) ⌝ }
     ensures { λ r. ⌜ Puts (totalsText (totalsAfresh (now (chart .entry)))) (now (out .entry)) at (now (out .exit)) r ⌝ }
 {
-    match editor::totals(chart, values, aim, aim_no_sliders, speed, flashlight) {
+    match figures::totals(chart, values, aim, aim_no_sliders, speed, flashlight) {
         TotalsAnswer::Refused(r) => lines::put_refusal(out, at, r),
         TotalsAnswer::Totals(t) => lines::put_totals(out, at, t),
     }

@@ -15,13 +15,16 @@ use Rattle.chart_opening.specs.declared.Refusal.{Refusal}
 use Rattle.chart_opening.specs.declared.Refusal.the-variants.{Header, Setting, Object, Entries, Order, Length, Table, Place, Room}
 use Rattle.chart_opening.specs.declared.Verdict.{Verdict}
 use Rattle.chart_opening.specs.declared.Verdict.the-variants.{Accepted, Refused}
-use Rattle.skills.specs.declared.Skills.{Skills}
+use Rattle.chart_opening.specs.Header.{settingsOf}
+use Rattle.osu_records.specs.Rows.{recordAt}
+use Rattle.eval_rhythm.specs.Comparisons.{comparisonsAtPlace, mostComparisons}
+use Rattle.eval_rhythm.proofs.Bounded.{comparisons-bounded}
 use Rattle.calls.specs.Tables.{valueEntries}
-use Rattle.calls.specs.Afresh.{Record, totals, totalsAre}
-use Rattle.calls.specs.Conditions.{Scratch, lengths, scratchShort, Operation, figure, figureVerdict, refusal}
-use Rattle.calls.specs.Calls.{Answer, refused, recordIs, valuesAre, figureIs, Outcome, State, state, result, refuse, execute, verdictIn, outcome, cleared, scratchAfter}
-use Rattle.calls.proofs.Refusals.{figure-refused, figure-passed}
-use Rattle.station.specs.Codes.{totalsWidth, noRoom, readInto, intoVerdict, totalsInto, scratchInto}
+use Rattle.calls.specs.Afresh.{Record, object, rhythm, Finding, rhythmIs, detailOf, Figure, Amount}
+use Rattle.calls.specs.Conditions.{Scratch, lengths, scratchShort, Operation, readDetail, figure, sumVerdict, figureVerdict, refusal}
+use Rattle.calls.specs.Calls.{Answer, refused, recordIs, valuesAre, detailIs, figureIs, Outcome, State, state, result, refuse, execute, verdictIn, outcome, cleared, scratchAfter}
+use Rattle.calls.proofs.Refusals.{sum-refused, sum-passed, figure-refused}
+use Rattle.station.specs.Codes.{rhythmWidth, noRoom, readInto, intoVerdict, figureInto, scratchInto}
 
 pub number-small : (r : Refusal) → refusalNumber r ≤ 9
 number-small Header = omega arith
@@ -64,58 +67,72 @@ no-record x r e = let z : _≡_ {A = ℕ} 0 1 = cc in absurd (omega arith)
 pub no-values : (v : List Float) (r : Refusal) → refused r ≡ valuesAre v → ⊥
 no-values v r e = let z : _≡_ {A = ℕ} 0 1 = cc in absurd (omega arith)
 
--- ---- Totals
+pub no-detail : (x : Finding) (r : Refusal) → refused r ≡ detailIs x → ⊥
+no-detail x r e = let z : _≡_ {A = ℕ} 0 1 = cc in absurd (omega arith)
 
-module _ (room : ℕ) (x : Scratch) (b : List ℕ) (vs : List Float) where
-  st : State
-  st = state b [] vs
+-- the comparisons of a rhythm value that is read are few
+pub few-compared : (x : Float) (n room k : ℕ) (st : State) → detailIs (rhythmIs x n) ≡ readInto rhythmWidth room (readDetail rhythm k) st .answer → n ≤ mostComparisons
+unfolding outcome execute detailOf refuse ifAccepted
+few-compared x n room k st e =
+    go (verdictIn (readDetail rhythm k) st) (e ∙ ap (λ (o : Outcome). o .answer) (into-long rhythmWidth room (readDetail rhythm k) st (into-room rhythmWidth room (readDetail rhythm k) st _ (no-detail (rhythmIs x n)) e)))
+  where
+    go : (v : Verdict) → detailIs (rhythmIs x n) ≡ ifAccepted v (execute (readDetail rhythm k) st) (refuse st) .answer → n ≤ mostComparisons
+    go Accepted f =
+        let m : n ≡ comparisonsAtPlace (object (st .chart)) (recordAt (st .records)) k (settingsOf (st .chart) .«hit_window») = cc in
+        rw m (comparisons-bounded (object (st .chart)) (recordAt (st .records)) k (settingsOf (st .chart) .«hit_window»))
+    go (Refused r) f = absurd (no-detail (rhythmIs x n) r (sym f))
 
+-- ---- Figures
+
+module _ (f : Figure) (width room : ℕ) (x : Scratch) (b : List ℕ) (vs : List Float) where
   asked : Bool → Verdict
-  asked short = figureVerdict b (valueEntries (length vs)) short
+  asked short = figureVerdict f b (valueEntries (length vs)) short
 
   outcome-by : Verdict → Outcome
-  outcome-by v = ifAccepted v (execute (figure totals (lengths x)) (state b [] vs)) (refuse (state b [] vs))
+  outcome-by v = ifAccepted v (execute (figure f (lengths x)) (state b [] vs)) (refuse (state b [] vs))
 
   scratch-by : Verdict → Scratch
   scratch-by v = ifAccepted v (cleared x) (λ r. x)
 
-  pub totals-short : room < totalsWidth → (r : Refusal) → Refused r ≡ figureVerdict b (valueEntries (length vs)) true
-      → (totalsInto room x (state b [] vs) ≡ result (refused r) b [] vs) × (scratchInto room x (state b [] vs) ≡ x)
-  unfolding totalsInto scratchInto intoVerdict outcome-by scratch-by asked ifAccepted refuse
-  totals-short h r e =
-      let q = ap (λ (t : Bool). asked (t || scratchShort (lengths x))) (lt-ltb room totalsWidth h) ∙ sym e in
+  -- with a short answer, a figure is refused as its sums are
+  pub figure-short : room < width → (r : Refusal) → Refused r ≡ sumVerdict b (valueEntries (length vs)) true
+      → (figureInto f width room x (state b [] vs) ≡ result (refused r) b [] vs) × (scratchInto f width room x (state b [] vs) ≡ x)
+  unfolding figureInto scratchInto intoVerdict outcome-by scratch-by asked ifAccepted refuse
+  figure-short h r e =
+      let q = ap (λ (t : Bool). asked (t || scratchShort (lengths x))) (lt-ltb room width h) ∙ figure-refused b (valueEntries (length vs)) true f r (sym e) in
       (ap outcome-by q, ap scratch-by q)
 
-  pub totals-long : totalsWidth ≤ room → (totalsInto room x (state b [] vs) ≡ outcome (figure totals (lengths x)) (state b [] vs)) × (scratchInto room x (state b [] vs) ≡ scratchAfter totals (state b [] vs) x)
-  unfolding totalsInto scratchInto intoVerdict outcome-by scratch-by asked outcome scratchAfter verdictIn refusal
-  totals-long h =
-      let q = ap (λ (t : Bool). asked (t || scratchShort (lengths x))) (le-ltb room totalsWidth h) in
+  pub figure-long : width ≤ room
+      → (figureInto f width room x (state b [] vs) ≡ outcome (figure f (lengths x)) (state b [] vs)) × (scratchInto f width room x (state b [] vs) ≡ scratchAfter f (state b [] vs) x)
+  unfolding figureInto scratchInto intoVerdict outcome-by scratch-by asked outcome scratchAfter verdictIn refusal
+  figure-long h =
+      let q = ap (λ (t : Bool). asked (t || scratchShort (lengths x))) (le-ltb room width h) in
       (ap outcome-by q, ap scratch-by q)
 
-  -- with a short answer, totals are refused
-  never-short : (v : Verdict) → figureVerdict b (valueEntries (length vs)) true ≡ v → v ≡ Accepted → ⊥
-  never-short v e f = absurd (go _ refl)
+  -- what comes with sums that are too short is never accepted
+  never-short : sumVerdict b (valueEntries (length vs)) true ≡ Accepted → ⊥
+  never-short e = absurd (go _ refl)
     where
       go : (w : Verdict) → openVerdict b (valueEntries (length vs)) ≡ w → ⊥
-      go Accepted o = refuses (sym (figure-passed b (valueEntries (length vs)) true o) ∙ (e ∙ f))
-      go (Refused r) o = refuses (sym (figure-refused b (valueEntries (length vs)) true r o) ∙ (e ∙ f))
+      go Accepted o = refuses (sym (sum-passed b (valueEntries (length vs)) true o) ∙ e)
+      go (Refused r) o = refuses (sym (sum-refused b (valueEntries (length vs)) true r o) ∙ e)
 
-  pub totals-room : (t : Skills) → figureIs (totalsAre t) ≡ totalsInto room x (state b [] vs) .answer → totalsWidth ≤ room
-  unfolding totalsInto intoVerdict ifAccepted refuse
-  totals-room t e = go (ltb room totalsWidth) refl
+  pub figure-room : (a : Amount) → figureIs a ≡ figureInto f width room x (state b [] vs) .answer → width ≤ room
+  unfolding figureInto intoVerdict ifAccepted refuse
+  figure-room a e = go (ltb room width) refl
     where
-      no-totals : (r : Refusal) → refused r ≡ figureIs (totalsAre t) → ⊥
-      no-totals r f = let z : _≡_ {A = ℕ} 0 1 = cc in absurd (omega arith)
+      no-figure : (r : Refusal) → refused r ≡ figureIs a → ⊥
+      no-figure r g = let z : _≡_ {A = ℕ} 0 1 = cc in absurd (omega arith)
 
       by : Verdict → Answer
-      by v = ifAccepted v (execute (figure totals (lengths x)) (state b [] vs)) (refuse (state b [] vs)) .answer
+      by v = ifAccepted v (execute (figure f (lengths x)) (state b [] vs)) (refuse (state b [] vs)) .answer
 
-      told : (v : Verdict) → figureVerdict b (valueEntries (length vs)) true ≡ v → figureIs (totalsAre t) ≡ by v → ⊥
-      told Accepted q f = never-short Accepted q refl
-      told (Refused r) q f = no-totals r (sym f)
+      told : (v : Verdict) → sumVerdict b (valueEntries (length vs)) true ≡ v → figureIs a ≡ by (figureVerdict f b (valueEntries (length vs)) true) → ⊥
+      told Accepted q g = never-short q
+      told (Refused r) q g = no-figure r (sym (g ∙ ap by (figure-refused b (valueEntries (length vs)) true f r q)))
 
-      go : (s : Bool) → ltb room totalsWidth ≡ s → totalsWidth ≤ room
+      go : (s : Bool) → ltb room width ≡ s → width ≤ room
       go true h =
-          let q = ap (λ (s : Bool). figureVerdict b (valueEntries (length vs)) (s || scratchShort (lengths x))) h in
-          absurd (told (figureVerdict b (valueEntries (length vs)) true) refl (e ∙ ap by q))
-      go false h = ltb-false room totalsWidth h
+          let q = ap (λ (s : Bool). figureVerdict f b (valueEntries (length vs)) (s || scratchShort (lengths x))) h in
+          absurd (told (sumVerdict b (valueEntries (length vs)) true) refl (e ∙ ap by q))
+      go false h = ltb-false room width h

@@ -3,7 +3,9 @@ use mathlib.Core.List.{List, [], _∷_}
 use mathlib.Core.Bool.{Bool, cond, _||_}
 use Prim.Native.Nat.{ℕ, _+_, _*_, _%_}
 use lib.Dec.{ltb}
-use lib.Ieee.{Float}
+use lib.Ieee as Ieee
+use lib.Ieee.{Float, binary64}
+use lib.IntN.{pos}
 use lib.ListN.{length}
 use Rattle.chart_opening.specs.Header.{headerOk}
 use Rattle.chart_opening.specs.Conditions.{refusalNumber, refusalPlace, ifAccepted}
@@ -11,12 +13,15 @@ use Rattle.chart_opening.specs.declared.Refusal.{Refusal}
 use Rattle.chart_opening.specs.declared.Refusal.the-variants.{Header, Table}
 use Rattle.chart_opening.specs.declared.Verdict.{Verdict}
 use Rattle.chart_opening.specs.declared.Verdict.the-variants.{Accepted, Refused}
+use Rattle.num_floats.specs.Numbers.{f64, zero64, one64, two64, three64}
 use Rattle.osu_records.specs.Rows.{rowOf}
+use Rattle.eval_aim.specs.declared.AimRule.{AimRule}
+use Rattle.eval_aim.specs.declared.AimRule.the-variants.{TooFew, Spinner, Acute, Wide}
 use Rattle.skills.specs.declared.Skills.{Skills}
 use Rattle.calls.specs.Tables.{valueEntries}
-use Rattle.calls.specs.Afresh.{totals, Amount, totalsAre}
+use Rattle.calls.specs.Afresh.{Finding, aimIs, rhythmIs, Figure, Amount, totalsAre}
 use Rattle.calls.specs.Conditions.{Scratch, lengths, scratchShort, Operation, figure, figureVerdict}
-use Rattle.calls.specs.Calls.{Answer, refused, replaced, inserted, removed, recordIs, valuesAre, figureIs, State, Outcome, refuse, execute, outcome, cleared}
+use Rattle.calls.specs.Calls.{Answer, refused, replaced, inserted, removed, recordIs, valuesAre, detailIs, figureIs, State, Outcome, refuse, execute, outcome, cleared}
 
 -- 2^32
 abbrev pub placeSpan : ℕ
@@ -39,6 +44,7 @@ answerCode inserted = 0
 answerCode removed = 0
 answerCode (recordIs x) = 0
 answerCode (valuesAre v) = 0
+answerCode (detailIs x) = 0
 answerCode (figureIs a) = 0
 
 -- in document 01's order: aim, aim without sliders, speed, flashlight
@@ -51,6 +57,26 @@ totalsWidth = 4
 abbrev pub amountRow : Amount → List Float
 amountRow (totalsAre t) = totalsRow t
 
+-- the rule that answered: 0 too few predecessors, 1 a spinner, 2 the acute side of the last max, 3 its wide side
+abbrev pub ruleNumber : AimRule → Float
+ruleNumber TooFew = zero64
+ruleNumber Spinner = one64
+ruleNumber Acute = two64
+ruleNumber Wide = three64
+
+-- aim: its value, both velocities, the five bonuses and the rule, then the same without sliders; rhythm: its value and the comparisons
+abbrev pub findingRow : Finding → List Float
+findingRow (aimIs x p y q) =
+    x ∷ p .«curr_vel» ∷ p .«prev_vel» ∷ p .wide ∷ p .acute ∷ p .wiggle ∷ p .«vel_change» ∷ p .slider ∷ ruleNumber (p .rule)
+    ∷ y ∷ q .«curr_vel» ∷ q .«prev_vel» ∷ q .wide ∷ q .acute ∷ q .wiggle ∷ q .«vel_change» ∷ q .slider ∷ ruleNumber (q .rule) ∷ []
+findingRow (rhythmIs x n) = x ∷ Ieee.ofInt binary64 (pos n) ∷ []
+
+abbrev pub aimWidth : ℕ
+aimWidth = 18
+
+abbrev pub rhythmWidth : ℕ
+rhythmWidth = 2
+
 -- the numbers that a call writes
 abbrev pub numbersOf : Answer → List Float
 numbersOf (refused r) = []
@@ -59,6 +85,7 @@ numbersOf inserted = []
 numbersOf removed = []
 numbersOf (recordIs x) = rowOf x
 numbersOf (valuesAre v) = v
+numbersOf (detailIs x) = findingRow x
 numbersOf (figureIs a) = amountRow a
 
 -- ---- Room for the answer: a slice that is too short counts in condition 7
@@ -70,12 +97,12 @@ noRoom b = cond (headerOk b) Table Header
 unfoldable pub readInto : ℕ → ℕ → Operation → State → Outcome
 readInto need room a st = cond (ltb room need) (refuse st (noRoom (st .chart))) (outcome a st)
 
--- of totals, as scratch does
-unfoldable pub intoVerdict : ℕ → Scratch → State → Verdict
-intoVerdict room x st = figureVerdict (st .chart) (valueEntries (length (st .values))) (ltb room totalsWidth || scratchShort (lengths x))
+-- of a figure of as many numbers, as scratch does
+unfoldable pub intoVerdict : Figure → ℕ → ℕ → Scratch → State → Verdict
+intoVerdict f width room x st = figureVerdict f (st .chart) (valueEntries (length (st .values))) (ltb room width || scratchShort (lengths x))
 
-unfoldable pub totalsInto : ℕ → Scratch → State → Outcome
-totalsInto room x st = ifAccepted (intoVerdict room x st) (execute (figure totals (lengths x)) st) (refuse st)
+unfoldable pub figureInto : Figure → ℕ → ℕ → Scratch → State → Outcome
+figureInto f width room x st = ifAccepted (intoVerdict f width room x st) (execute (figure f (lengths x)) st) (refuse st)
 
-unfoldable pub scratchInto : ℕ → Scratch → State → Scratch
-scratchInto room x st = ifAccepted (intoVerdict room x st) (cleared x) (λ r. x)
+unfoldable pub scratchInto : Figure → ℕ → ℕ → Scratch → State → Scratch
+scratchInto f width room x st = ifAccepted (intoVerdict f width room x st) (cleared x) (λ r. x)

@@ -8,21 +8,33 @@ ghost use lib.ListN.{length};
 ghost use Rattle.num_tables.specs.Parts.{put};
 ghost use Rattle.chart_opening.specs.declared.Verdict.the-variants.{Refused};
 ghost use Rattle.calls.specs.Conditions as ops;
-ghost use Rattle.calls.specs.Conditions.{figureVerdict};
+ghost use Rattle.calls.specs.Afresh as asked;
+ghost use Rattle.calls.specs.Conditions.{sumVerdict};
 ghost use Rattle.calls.specs.Calls.{state, result, openAnswer, openLeaves, outcome};
-ghost use Rattle.editor.specs.Answers.{recordAnswer, valuesAnswer, totalsAnswer, scratchOf};
-ghost use Rattle.station.specs.Codes.{codeOf, verdictCode, answerCode, numbersOf, totalsRow, totalsWidth, noRoom, readInto, totalsInto, scratchInto};
+ghost use Rattle.readings.specs.Answers.{recordAnswer, valuesAnswer, aimFinding, aimAnswer, rhythmAnswer};
+ghost use Rattle.figures.specs.Answers.{totalsAnswer, scratchOf};
+ghost use Rattle.station.specs.Codes.{codeOf, verdictCode, answerCode, ruleNumber, findingRow, numbersOf, totalsRow, aimWidth, rhythmWidth, totalsWidth};
+ghost use Rattle.station.specs.Codes.{noRoom, readInto, figureInto, scratchInto};
 use chart_opening::Refusal;
 use chart_opening::Verdict;
-use editor::RecordAnswer;
-use editor::TotalsAnswer;
-use editor::ValuesAnswer;
+use eval_aim::AimRule;
+use figures::TotalsAnswer;
+use readings::AimAnswer;
+use readings::AimDetail;
+use readings::RecordAnswer;
+use readings::RhythmAnswer;
+use readings::ValuesAnswer;
 use skills::Skills;
 
 // How many places a code tells apart, and how many totals there are.
 const PLACE_SPAN: usize = 0x1_0000_0000;
 
 const TOTALS_WIDTH: usize = 4;
+
+// Numbers of aim in its parts, and of the rhythm value with its comparisons.
+const AIM_WIDTH: usize = 18;
+
+const RHYTHM_WIDTH: usize = 2;
 
 // A refusal as one number.
 fn code(r: Refusal) -> u64
@@ -120,10 +132,10 @@ fn record_into(chart: &[u8], records: &[f64], place: usize, room: usize) -> Reco
     ensures { λ r. ⌜ result (recordAnswer r) (now (chart .exit)) (now (records .exit)) []
         ≡ readInto 16 room (ops.readRecord place) (state (now (chart .entry)) (now (records .entry)) []) ⌝ }
 {
-    if room < editor::RECORD_WIDTH {
+    if room < calls::RECORD_WIDTH {
         return RecordAnswer::Refused(no_room(chart));
     }
-    editor::read_record(chart, records, place)
+    readings::read_record(chart, records, place)
 }
 
 // Writes the record of a place, as the table has it: sixteen numbers, in the table's order.
@@ -155,10 +167,10 @@ fn values_into(chart: &[u8], values: &[f64], place: usize, room: usize) -> Value
     ensures { λ r. ⌜ result (valuesAnswer r) (now (chart .exit)) [] (now (values .exit))
         ≡ readInto 5 room (ops.readValues place) (state (now (chart .entry)) [] (now (values .entry))) ⌝ }
 {
-    if room < editor::VALUE_WIDTH {
+    if room < calls::VALUE_WIDTH {
         return ValuesAnswer::Refused(no_room(chart));
     }
-    editor::read_values(chart, values, place)
+    readings::read_values(chart, values, place)
 }
 
 // Writes the five values of a place, as the table has them.
@@ -185,9 +197,121 @@ pub extern "C" fn difficulty_read_values(
     }
 }
 
-// Why totals without room are refused.
-fn refuse_totals(chart: &[u8], entries: usize) -> Refusal
-    ensures { λ r. ⌜ Refused r ≡ figureVerdict (now (chart .entry)) entries true ⌝ }
+// Aim in its parts at a place, for an answer with as much room.
+fn aim_into(chart: &[u8], records: &[f64], place: usize, room: usize) -> AimAnswer
+    ensures { λ r. ⌜ result (aimAnswer r) (now (chart .exit)) (now (records .exit)) []
+        ≡ readInto aimWidth room (ops.readDetail asked.aimParts place) (state (now (chart .entry)) (now (records .entry)) []) ⌝ }
+{
+    if room < AIM_WIDTH {
+        return AimAnswer::Refused(no_room(chart));
+    }
+    readings::read_aim_parts(chart, records, place)
+}
+
+// The rule that answered, as a number.
+fn rule_number(rule: AimRule) -> f64
+    ensures { λ r. ⌜ r ≡ ruleNumber rule ⌝ }
+{
+    match rule {
+        AimRule::TooFew => 0.0,
+        AimRule::Spinner => 1.0,
+        AimRule::Acute => 2.0,
+        AimRule::Wide => 3.0,
+    }
+}
+
+// Writes aim in its parts, with sliders and then without.
+fn put_aim(out: &mut [f64], d: AimDetail)
+    requires { ⌜ aimWidth ≤ length (now out) ⌝ }
+    ensures { λ _. ⌜ now (out .exit) ≡ put 0 (findingRow (aimFinding d)) (now (out .entry)) ⌝ }
+{
+    let p = d.parts;
+    let q = d.parts_no_sliders;
+    let p_rule = p.rule;
+    let q_rule = q.rule;
+    let with = rule_number(p_rule);
+    let without = rule_number(q_rule);
+    out[0] = d.value;
+    out[1] = p.curr_vel;
+    out[2] = p.prev_vel;
+    out[3] = p.wide;
+    out[4] = p.acute;
+    out[5] = p.wiggle;
+    out[6] = p.vel_change;
+    out[7] = p.slider;
+    out[8] = with;
+    out[9] = d.value_no_sliders;
+    out[10] = q.curr_vel;
+    out[11] = q.prev_vel;
+    out[12] = q.wide;
+    out[13] = q.acute;
+    out[14] = q.wiggle;
+    out[15] = q.vel_change;
+    out[16] = q.slider;
+    out[17] = without;
+}
+
+// Writes aim's value at a place with its parts and the rule that answered, and the same without sliders.
+#[no_mangle]
+pub extern "C" fn difficulty_read_aim_parts(
+    chart: &[u8],
+    records: &[f64],
+    place: usize,
+    out: &mut [f64],
+) -> u64
+    ensures answer { λ r. ⌜ r ≡ answerCode (readInto aimWidth (length (now (out .entry))) (ops.readDetail asked.aimParts place)
+        (state (now (chart .entry)) (now (records .entry)) []) .answer) ⌝ }
+    ensures out { λ _. ⌜ now (out .exit) ≡ put 0 (numbersOf (readInto aimWidth (length (now (out .entry))) (ops.readDetail asked.aimParts place)
+        (state (now (chart .entry)) (now (records .entry)) []) .answer)) (now (out .entry)) ⌝ }
+    ensures leaves { λ _. ⌜ state (now (chart .exit)) (now (records .exit)) [] ≡ state (now (chart .entry)) (now (records .entry)) [] ⌝ }
+{
+    match aim_into(chart, records, place, out.len()) {
+        AimAnswer::Refused(r) => code(r),
+        AimAnswer::Aim(d) => {
+            put_aim(out, d);
+            0
+        }
+    }
+}
+
+// The rhythm value of a place with its comparisons, for an answer with as much room.
+fn rhythm_into(chart: &[u8], records: &[f64], place: usize, room: usize) -> RhythmAnswer
+    ensures { λ r. ⌜ result (rhythmAnswer r) (now (chart .exit)) (now (records .exit)) []
+        ≡ readInto rhythmWidth room (ops.readDetail asked.rhythm place) (state (now (chart .entry)) (now (records .entry)) []) ⌝ }
+{
+    if room < RHYTHM_WIDTH {
+        return RhythmAnswer::Refused(no_room(chart));
+    }
+    readings::read_rhythm(chart, records, place)
+}
+
+// Writes the rhythm value of a place, and how often an island was compared with a kept one for it.
+#[no_mangle]
+pub extern "C" fn difficulty_read_rhythm(
+    chart: &[u8],
+    records: &[f64],
+    place: usize,
+    out: &mut [f64],
+) -> u64
+    ensures answer { λ r. ⌜ r ≡ answerCode (readInto rhythmWidth (length (now (out .entry))) (ops.readDetail asked.rhythm place)
+        (state (now (chart .entry)) (now (records .entry)) []) .answer) ⌝ }
+    ensures out { λ _. ⌜ now (out .exit) ≡ put 0 (numbersOf (readInto rhythmWidth (length (now (out .entry))) (ops.readDetail asked.rhythm place)
+        (state (now (chart .entry)) (now (records .entry)) []) .answer)) (now (out .entry)) ⌝ }
+    ensures leaves { λ _. ⌜ state (now (chart .exit)) (now (records .exit)) [] ≡ state (now (chart .entry)) (now (records .entry)) [] ⌝ }
+{
+    match rhythm_into(chart, records, place, out.len()) {
+        RhythmAnswer::Refused(r) => code(r),
+        RhythmAnswer::Rhythm(c) => {
+            out[0] = c.value;
+            out[1] = c.comparisons as u32 as f64;
+            0
+        }
+    }
+}
+
+// Why a figure without room is refused.
+fn refuse_sums(chart: &[u8], entries: usize) -> Refusal
+    ensures { λ r. ⌜ Refused r ≡ sumVerdict (now (chart .entry)) entries true ⌝ }
 {
     match chart_opening::check(chart, entries) {
         Verdict::Refused(r) => r,
@@ -206,16 +330,16 @@ fn totals_into(
     room: usize,
 ) -> TotalsAnswer
     ensures answer { λ r. ⌜ result (totalsAnswer r) (now (chart .exit)) [] (now (values .exit))
-        ≡ totalsInto room (scratchOf (now (aim .entry)) (now («aim_no_sliders» .entry)) (now (speed .entry)) (now (flashlight .entry)))
+        ≡ figureInto asked.totals totalsWidth room (scratchOf (now (aim .entry)) (now («aim_no_sliders» .entry)) (now (speed .entry)) (now (flashlight .entry)))
         (state (now (chart .entry)) [] (now (values .entry))) ⌝ }
     ensures scratch { λ _. ⌜ scratchOf (now (aim .exit)) (now («aim_no_sliders» .exit)) (now (speed .exit)) (now (flashlight .exit))
-        ≡ scratchInto room (scratchOf (now (aim .entry)) (now («aim_no_sliders» .entry)) (now (speed .entry)) (now (flashlight .entry)))
+        ≡ scratchInto asked.totals totalsWidth room (scratchOf (now (aim .entry)) (now («aim_no_sliders» .entry)) (now (speed .entry)) (now (flashlight .entry)))
         (state (now (chart .entry)) [] (now (values .entry))) ⌝ }
 {
     if room < TOTALS_WIDTH {
-        return TotalsAnswer::Refused(refuse_totals(chart, values.len() / editor::VALUE_WIDTH));
+        return TotalsAnswer::Refused(refuse_sums(chart, values.len() / calls::VALUE_WIDTH));
     }
-    editor::totals(chart, values, aim, aim_no_sliders, speed, flashlight)
+    figures::totals(chart, values, aim, aim_no_sliders, speed, flashlight)
 }
 
 // Writes the four totals.
@@ -241,15 +365,15 @@ pub extern "C" fn difficulty_totals(
     out: &mut [f64],
 ) -> u64
     ensures answer { λ r. ⌜ r
-        ≡ answerCode (totalsInto (length (now (out .entry)))
+        ≡ answerCode (figureInto asked.totals totalsWidth (length (now (out .entry)))
         (scratchOf (now (aim .entry)) (now («aim_no_sliders» .entry)) (now (speed .entry)) (now (flashlight .entry)))
         (state (now (chart .entry)) [] (now (values .entry))) .answer) ⌝ }
     ensures scratch { λ _. ⌜ scratchOf (now (aim .exit)) (now («aim_no_sliders» .exit)) (now (speed .exit)) (now (flashlight .exit))
-        ≡ scratchInto (length (now (out .entry)))
+        ≡ scratchInto asked.totals totalsWidth (length (now (out .entry)))
         (scratchOf (now (aim .entry)) (now («aim_no_sliders» .entry)) (now (speed .entry)) (now (flashlight .entry)))
         (state (now (chart .entry)) [] (now (values .entry))) ⌝ }
     ensures out { λ _. ⌜ now (out .exit)
-        ≡ put 0 (numbersOf (totalsInto (length (now (out .entry)))
+        ≡ put 0 (numbersOf (figureInto asked.totals totalsWidth (length (now (out .entry)))
         (scratchOf (now (aim .entry)) (now («aim_no_sliders» .entry)) (now (speed .entry)) (now (flashlight .entry)))
         (state (now (chart .entry)) [] (now (values .entry))) .answer)) (now (out .entry)) ⌝ }
     ensures leaves { λ _. ⌜ state (now (chart .exit)) [] (now (values .exit)) ≡ state (now (chart .entry)) [] (now (values .entry)) ⌝ }

@@ -16,9 +16,9 @@
 // hold what they held.
 ghost use Prim.Native.Nat.{_≤_};
 use chart_opening::Verdict;
-use editor::RecordAnswer;
-use editor::TotalsAnswer;
-use editor::ValuesAnswer;
+use figures::TotalsAnswer;
+use readings::RecordAnswer;
+use readings::ValuesAnswer;
 
 // Scripts that are read at most.
 const MOST: usize = 65536;
@@ -166,7 +166,7 @@ fn read_and_edit(
 fn record(out: &mut [u8], at: usize, chart: &[u8], records: &[f64]) -> usize {
     let place = text::next_long() as usize;
     let r = text::next_length(records.len());
-    match editor::read_record(chart, &records[0..r], place) {
+    match readings::read_record(chart, &records[0..r], place) {
         RecordAnswer::Refused(x) => lines::put_refusal(out, at, x),
         RecordAnswer::Record(x) => {
             let word = text::put_all(out, at, b"record ");
@@ -178,7 +178,7 @@ fn record(out: &mut [u8], at: usize, chart: &[u8], records: &[f64]) -> usize {
 fn value(out: &mut [u8], at: usize, chart: &[u8], values: &[f64]) -> usize {
     let place = text::next_long() as usize;
     let v = text::next_length(values.len());
-    match editor::read_values(chart, &values[0..v], place) {
+    match readings::read_values(chart, &values[0..v], place) {
         ValuesAnswer::Refused(x) => lines::put_refusal(out, at, x),
         ValuesAnswer::Values(x) => {
             let word = text::put_all(out, at, b"value ");
@@ -241,7 +241,7 @@ fn totals(
     c: &mut [f64],
     d: &mut [f64],
 ) -> usize {
-    match editor::totals(chart, values, a, b, c, d) {
+    match figures::totals(chart, values, a, b, c, d) {
         TotalsAnswer::Refused(x) => {
             let end = lines::put_refusal(out, at, x);
             put_scratch(out, end, UNUSED, a, b, c, d)

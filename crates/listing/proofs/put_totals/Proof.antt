@@ -3,7 +3,7 @@ use mathlib.Core.Path.{ap}
 use Rattle.text.specs.Buffer.{same-text}
 use Rattle.calls.specs.Calls.{Outcome}
 use Rattle.lines.specs.Lines.{totalsText}
-use Rattle.editor.specs.Answers.{scratchOf}
+use Rattle.figures.specs.Answers.{scratchOf}
 use Rattle.listing.proofs.Calls.{totals-are, totals-carried-out}
 use borrow.Author.Needs.{needs}
 use Rattle.listing.proofs.put_totals.Statement.{statement}

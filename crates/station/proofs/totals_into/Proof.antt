@@ -1,18 +1,20 @@
 -- `station::totals_into` meets its contract. Assumes nothing.
 use mathlib.Core.Path.{sym, _∙_}
-use Rattle.editor.specs.Answers.{scratchOf}
-use Rattle.station.proofs.Rooms.{totals-short, totals-long}
+use Rattle.calls.specs.Afresh.{totals}
+use Rattle.figures.specs.Answers.{scratchOf}
+use Rattle.station.specs.Codes.{totalsWidth}
+use Rattle.station.proofs.Rooms.{figure-short, figure-long}
 use borrow.Author.Needs.{needs}
 use Rattle.station.proofs.totals_into.Statement.{statement}
 use Rattle.station.proofs.totals_into.Tie as tie
 
-refuse-totals-requires : tie.Need-refuse-totals-requires
-refuse-totals-requires c κs = search needs
+refuse-sums-requires : tie.Need-refuse-sums-requires
+refuse-sums-requires c κs = search needs
 
 returns : tie.Need-returns
 returns c =
     let a = c .before .before .before .before .before .before .before .before .args in
-    let h = totals-short (a .room) (scratchOf (a .aim .now) (a .aim-no-sliders .now) (a .speed .now) (a .flashlight .now)) (a .chart .now) (a .values .now) (c .before .if1 .taken) _ (c .refuse-totals .ensures) in
+    let h = figure-short totals totalsWidth (a .room) (scratchOf (a .aim .now) (a .aim-no-sliders .now) (a .speed .now) (a .flashlight .now)) (a .chart .now) (a .values .now) (c .before .if1 .taken) _ (c .refuse-sums .ensures) in
     (sym (h .0), sym (h .1))
 
 totals-requires : tie.Need-totals-requires
@@ -33,14 +35,14 @@ same-length-4 c = search needs
 returns-2 : tie.Need-returns-2
 returns-2 c =
     let a = c .before .before .before .before .before .before .before .before .before .before .before .before .before .before .before .before .before .before .before .before .args in
-    let h = totals-long (a .room) (scratchOf (a .aim .now) (a .aim-no-sliders .now) (a .speed .now) (a .flashlight .now)) (a .chart .now) (a .values .now) (c .before .before .before .before .before .before .before .before .before .before .before .before .before .if1 .left) in
+    let h = figure-long totals totalsWidth (a .room) (scratchOf (a .aim .now) (a .aim-no-sliders .now) (a .speed .now) (a .flashlight .now)) (a .chart .now) (a .values .now) (c .before .before .before .before .before .before .before .before .before .before .before .before .before .if1 .left) in
     (c .before .before .before .before .before .before .before .before .totals .ensures .0 ∙ sym (h .0), c .before .before .before .before .before .before .before .before .totals .ensures .1 ∙ sym (h .1))
 
 pub totals-into-spec : {M : Type 1} → statement M
 totals-into-spec =
     tie.close
     (tie.spec
-    refuse-totals-requires
+    refuse-sums-requires
     returns
     totals-requires
     same-length

@@ -1,14 +1,14 @@
--- `editor::read_record` meets its contract. Assumes nothing.
+-- `readings::read_record` meets its contract. Assumes nothing.
 use mathlib.Core.Path.{sym, ap, _∙_}
 use mathlib.Core.List.{[]}
 use native.Mathlib.Omega.{arith}
 use Rattle.chart_opening.proofs.Header.{holds}
 use Rattle.calls.specs.Calls.{recordIs, result}
 use Rattle.calls.proofs.Refusals.{accepted-read}
-use Rattle.editor.proofs.Outcomes.{record-refused, record-read}
+use Rattle.readings.proofs.Outcomes.{record-refused, record-read}
 use borrow.Author.Needs.{needs}
-use Rattle.editor.proofs.read_record.Statement.{statement}
-use Rattle.editor.proofs.read_record.Tie as tie
+use Rattle.readings.proofs.read_record.Statement.{statement}
+use Rattle.readings.proofs.read_record.Tie as tie
 
 check-reading-requires : tie.Need-check-reading-requires
 check-reading-requires c κs = search needs

@@ -1,8 +1,8 @@
--- `editor::scratch_short` meets its contract. Assumes nothing.
+-- `figures::scratch_short` meets its contract. Assumes nothing.
 use Rattle.calls.specs.Conditions.{scratchShort}
 use borrow.Author.Needs.{needs}
-use Rattle.editor.proofs.scratch_short.Statement.{statement}
-use Rattle.editor.proofs.scratch_short.Tie as tie
+use Rattle.figures.proofs.scratch_short.Statement.{statement}
+use Rattle.figures.proofs.scratch_short.Tie as tie
 
 returns : tie.Need-returns
 unfolding scratchShort

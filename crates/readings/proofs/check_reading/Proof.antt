@@ -1,4 +1,4 @@
--- `editor::check_reading` meets its contract. Assumes nothing.
+-- `readings::check_reading` meets its contract. Assumes nothing.
 use mathlib.Core.Path.{sym, _∙_}
 use native.Mathlib.Omega.{arith}
 use borrow.Author.Tests.{lt-ltb, le-ltb, not-true, not-false}
@@ -6,8 +6,8 @@ use Rattle.chart_opening.proofs.Header.{parts}
 use Rattle.chart_opening.specs.Conditions.{firstOf}
 use Rattle.calls.specs.Conditions.{readConditions}
 use borrow.Author.Needs.{needs}
-use Rattle.editor.proofs.check_reading.Statement.{statement}
-use Rattle.editor.proofs.check_reading.Tie as tie
+use Rattle.readings.proofs.check_reading.Statement.{statement}
+use Rattle.readings.proofs.check_reading.Tie as tie
 
 header-ok-requires : tie.Need-header-ok-requires
 header-ok-requires c κs = search needs

@@ -1,13 +1,13 @@
--- `editor::read_values` meets its contract. Assumes nothing.
+-- `readings::read_values` meets its contract. Assumes nothing.
 use mathlib.Core.Path.{sym, ap, _∙_}
 use mathlib.Core.List.{[]}
 use native.Mathlib.Omega.{arith}
 use Rattle.calls.specs.Calls.{valuesAre, result}
 use Rattle.calls.proofs.Refusals.{accepted-read}
-use Rattle.editor.proofs.Outcomes.{values-refused, values-read}
+use Rattle.readings.proofs.Outcomes.{values-refused, values-read}
 use borrow.Author.Needs.{needs}
-use Rattle.editor.proofs.read_values.Statement.{statement}
-use Rattle.editor.proofs.read_values.Tie as tie
+use Rattle.readings.proofs.read_values.Statement.{statement}
+use Rattle.readings.proofs.read_values.Tie as tie
 
 check-reading-requires : tie.Need-check-reading-requires
 check-reading-requires c κs = search needs

@@ -1,0 +1,19 @@
+-- `figures::check_lent` meets its contract. Assumes nothing.
+use mathlib.Core.Path.{_∙_, ap}
+use Rattle.calls.specs.Tables.{valueEntries}
+use Rattle.calls.specs.Conditions.{sumVerdict}
+use borrow.Author.Needs.{needs}
+use Rattle.figures.proofs.check_lent.Statement.{statement}
+use Rattle.figures.proofs.check_lent.Tie as tie
+
+scratch-short-requires : tie.Need-scratch-short-requires
+scratch-short-requires c κs = search needs
+
+check-sums-requires : tie.Need-check-sums-requires
+check-sums-requires c κs = search needs
+
+returns : tie.Need-returns
+returns c = c .check-sums .ensures ∙ ap (sumVerdict (c .before .before .before .args .chart .now) (valueEntries (c .before .before .before .args .values))) (c .before .scratch-short .ensures)
+
+pub check-lent-spec : {M : Type 1} → statement M
+check-lent-spec = tie.close (tie.spec scratch-short-requires check-sums-requires returns)

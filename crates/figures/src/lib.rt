@@ -1,0 +1,126 @@
+// The station's figures of a chart: what is worked out from the values of all places, with scratch. Nothing is assumed of the caller: each call answers the first
+// condition of its list that is met and changes nothing, or is carried out and leaves all scratch 0. Times come from the chart.
+ghost use mathlib.Core.Path.{_≡_};
+ghost use mathlib.Core.List.{[]};
+ghost use lib.ListN.{length};
+ghost use Rattle.chart_opening.specs.Header.{layoutOf, settingsOf};
+ghost use Rattle.skills.specs.Chart.{totalsOf};
+ghost use Rattle.calls.specs.Tables.{valueEntries};
+ghost use Rattle.calls.specs.Afresh as asked;
+ghost use Rattle.calls.specs.Conditions as ops;
+ghost use Rattle.calls.specs.Conditions.{lengths, scratchShort, sumVerdict};
+ghost use Rattle.calls.specs.Calls.{state, result, outcome, cleared, scratchAfter};
+ghost use Rattle.figures.specs.Answers.{Sums, scratchOf, totalsAnswer};
+use chart_opening::Refusal;
+use chart_opening::Verdict;
+use skills::Skills;
+
+// The four totals, or why they are not worked out.
+pub enum TotalsAnswer {
+    Totals(Skills),
+    Refused(Refusal),
+}
+
+// Whether a slice of scratch is too short.
+fn scratch_short(aim: usize, aim_no_sliders: usize, speed: usize, flashlight: usize) -> bool
+    ensures { λ r. ⌜ r ≡ scratchShort (record { aim = aim; aimNoSliders = «aim_no_sliders»; speed = speed; flashlight = flashlight }) ⌝ }
+{
+    (aim < calls::LEAST_SCRATCH)
+        | ((aim_no_sliders < calls::LEAST_SCRATCH)
+            | ((speed < calls::LEAST_SCRATCH) | (flashlight < calls::LEAST_SCRATCH)))
+}
+
+// Conditions 1 to 7 over a value table of as many entries, where scratch is short or not.
+fn check_sums(chart: &[u8], entries: usize, short: bool) -> Verdict
+    ensures { λ r. ⌜ r ≡ sumVerdict (now (chart .entry)) entries short ⌝ }
+{
+    match chart_opening::check(chart, entries) {
+        Verdict::Refused(r) => Verdict::Refused(r),
+        Verdict::Accepted => {
+            if short {
+                Verdict::Refused(Refusal::Table)
+            } else {
+                Verdict::Accepted
+            }
+        }
+    }
+}
+
+// Conditions 1 to 7, by the lengths of the value table and of the scratch.
+fn check_lent(
+    chart: &[u8],
+    values: usize,
+    aim: usize,
+    aim_no_sliders: usize,
+    speed: usize,
+    flashlight: usize,
+) -> Verdict
+    ensures { λ r. ⌜ r ≡ sumVerdict (now (chart .entry)) (valueEntries values)
+        (scratchShort (record { aim = aim; aimNoSliders = «aim_no_sliders»; speed = speed; flashlight = flashlight })) ⌝ }
+{
+    let short = scratch_short(aim, aim_no_sliders, speed, flashlight);
+    check_sums(chart, values / calls::VALUE_WIDTH, short)
+}
+
+// The four totals of a chart that meets none of conditions 1 to 7.
+fn totals_of(
+    chart: &[u8],
+    values: &[f64],
+    aim: &mut [f64],
+    aim_no_sliders: &mut [f64],
+    speed: &mut [f64],
+    flashlight: &mut [f64],
+) -> Skills
+    requires { ⌜ Sums (now chart) (length (now values))
+        (lengths (scratchOf (now aim) (now «aim_no_sliders») (now speed) (now flashlight))) ⌝ }
+    ensures result { λ r. ⌜ r
+        ≡ totalsOf (now (chart .entry)) (layoutOf (now (chart .entry))) (settingsOf (now (chart .entry)) .«clock_rate») (now (values .entry)) ⌝ }
+    ensures scratch { λ _. ⌜ scratchOf (now (aim .exit)) (now («aim_no_sliders» .exit)) (now (speed .exit)) (now (flashlight .exit))
+        ≡ cleared (scratchOf (now (aim .entry)) (now («aim_no_sliders» .entry)) (now (speed .entry)) (now (flashlight .entry))) ⌝ }
+{
+    let lay = chart_opening::layout_of(chart);
+    let clock = chart_opening::settings_at(chart, calls::SETTINGS_AT).clock_rate;
+    skills::totals(
+        chart,
+        lay,
+        clock,
+        values,
+        aim,
+        aim_no_sliders,
+        speed,
+        flashlight,
+    )
+}
+
+// The four totals, over the values in the table.
+pub fn totals(
+    chart: &[u8],
+    values: &[f64],
+    aim: &mut [f64],
+    aim_no_sliders: &mut [f64],
+    speed: &mut [f64],
+    flashlight: &mut [f64],
+) -> TotalsAnswer
+    ensures answer { λ r. ⌜ result (totalsAnswer r) (now (chart .exit)) [] (now (values .exit))
+        ≡ outcome (ops.figure asked.totals
+        (lengths (scratchOf (now (aim .entry)) (now («aim_no_sliders» .entry)) (now (speed .entry)) (now (flashlight .entry)))))
+        (state (now (chart .entry)) [] (now (values .entry))) ⌝ }
+    ensures scratch { λ _. ⌜ scratchOf (now (aim .exit)) (now («aim_no_sliders» .exit)) (now (speed .exit)) (now (flashlight .exit))
+        ≡ scratchAfter asked.totals (state (now (chart .entry)) [] (now (values .entry)))
+        (scratchOf (now (aim .entry)) (now («aim_no_sliders» .entry)) (now (speed .entry)) (now (flashlight .entry))) ⌝ }
+{
+    match check_lent(
+        chart,
+        values.len(),
+        aim.len(),
+        aim_no_sliders.len(),
+        speed.len(),
+        flashlight.len(),
+    ) {
+        Verdict::Refused(r) => TotalsAnswer::Refused(r),
+        Verdict::Accepted => {
+            let t = totals_of(chart, values, aim, aim_no_sliders, speed, flashlight);
+            TotalsAnswer::Totals(t)
+        }
+    }
+}

@@ -1,0 +1,24 @@
+-- `station::aim_into` meets its contract. Assumes nothing.
+use mathlib.Core.Path.{sym, _∙_}
+use mathlib.Core.List.{[]}
+use Rattle.calls.specs.Calls.{refused, result, refuse}
+use Rattle.station.proofs.Rooms.{into-short, into-long}
+use borrow.Author.Needs.{needs}
+use Rattle.station.proofs.aim_into.Statement.{statement}
+use Rattle.station.proofs.aim_into.Tie as tie
+
+no-room-requires : tie.Need-no-room-requires
+no-room-requires c κs = search needs
+
+returns : tie.Need-returns
+unfolding refuse
+returns c = (λ i. result (refused (c .no-room .ensures i)) (c .before .before .before .before .args .chart .now) (c .before .before .before .before .args .records .now) []) ∙ sym (into-short _ _ _ _ (c .before .if1 .taken))
+
+read-aim-parts-requires : tie.Need-read-aim-parts-requires
+read-aim-parts-requires c κs = search needs
+
+returns-2 : tie.Need-returns-2
+returns-2 c = c .read-aim-parts .ensures ∙ sym (into-long _ _ _ _ (c .before .if1 .left))
+
+pub aim-into-spec : {M : Type 1} → statement M
+aim-into-spec = tie.close (tie.spec no-room-requires returns read-aim-parts-requires returns-2)

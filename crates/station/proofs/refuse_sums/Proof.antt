@@ -1,0 +1,24 @@
+-- `station::refuse_sums` meets its contract. Assumes nothing.
+use mathlib.Core.Path.{sym, _∙_}
+use Rattle.calls.proofs.Refusals.{sum-refused, sum-passed}
+use borrow.Author.Needs.{needs}
+use Rattle.station.proofs.refuse_sums.Statement.{statement}
+use Rattle.station.proofs.refuse_sums.Tie as tie
+
+check-requires : tie.Need-check-requires
+check-requires c κs = search needs
+
+enum-known-r : tie.Need-enum-known-r
+enum-known-r c = search needs
+
+enum-told : tie.Need-enum-told
+enum-told c = search needs
+
+returns : tie.Need-returns
+returns c = sym (sum-refused _ _ _ _ (sym (c .before .before .before .check .ensures) ∙ c .before .r .given .1))
+
+returns-2 : tie.Need-returns-2
+returns-2 c = sym (sum-passed _ _ _ (sym (c .before .before .check .ensures) ∙ c .enum-told .given .1))
+
+pub refuse-sums-spec : {M : Type 1} → statement M
+refuse-sums-spec = tie.close (tie.spec check-requires enum-known-r enum-told returns returns-2)
