@@ -224,6 +224,7 @@ unplaced f = record {
   «nested_count» = f .«nested_count»;
   «first_point» = 0;
   «point_count» = f .«point_count»;
+  length = f .length;
 }
 
 abbrev pub fieldsIn : List ℕ → ℕ → Fields

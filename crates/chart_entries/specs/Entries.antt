@@ -6,8 +6,8 @@ use lib.Dec.{leb, ltb, eqb}
 use lib.Ieee as Ieee
 use lib.Ieee.{Float}
 use Rattle.num_floats.specs.Fields.{u32At, f64At, f32At}
-use Rattle.num_floats.specs.Numbers.{f64, zero64}
-use Rattle.chart_fields.specs.Limits.{nestedSize, pointSize, within}
+use Rattle.num_floats.specs.Numbers.{zero64}
+use Rattle.chart_fields.specs.Limits.{nestedSize, pointSize, longestLength, within}
 use Rattle.chart_fields.specs.Objects.{fieldsOf, slider, timeOk, coordinateOk}
 use Rattle.chart_fields.specs.Search.{firstBelow}
 use Rattle.chart_fields.specs.declared.Fields.{Fields}
@@ -33,10 +33,6 @@ pointOf s lay e = pointAt s (lay .«points_at» + pointSize * e)
 -- "0 tick, 1 repeat, 2 tail"
 abbrev pub tail : ℕ
 tail = 2
-
--- "lengths to 1,000,000"
-abbrev pub longestLength : Float
-longestLength = f64 0x412E848000000000
 
 -- "The tail is the last and the only one"; "a nested entry's last word that isn't zero is 4"
 unfoldable pub nestedOk : Nested → Bool → Bool

@@ -24,9 +24,6 @@ pub const REPEAT: u32 = 1;
 
 pub const TAIL: u32 = 2;
 
-// The length of a path, at most.
-const LONGEST_PATH: f64 = 1_000_000.0;
-
 // A nested entry's fields as they are stored: a tick, a repeat or the tail of a slider.
 pub struct Nested {
     pub start: f64,
@@ -163,7 +160,7 @@ fn point_ok(p: Point) -> bool
 {
     chart_fields::coordinate_ok(p.x)
         & chart_fields::coordinate_ok(p.y)
-        & ((0.0 <= p.length) & (p.length <= LONGEST_PATH))
+        & ((0.0 <= p.length) & (p.length <= chart_fields::LONGEST_PATH))
 }
 
 // Whether point k of those from first on is wrong.

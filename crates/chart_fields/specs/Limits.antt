@@ -13,6 +13,10 @@ headerSize = 80
 abbrev pub objectSize : ℕ
 objectSize = 56
 
+-- document 02, order 4: "Objects become 64 bytes with an f64 length last"
+abbrev pub statedSize : ℕ
+statedSize = 64
+
 -- "Nested, 24 bytes"
 abbrev pub nestedSize : ℕ
 nestedSize = 24
@@ -48,6 +52,10 @@ farthestStack = f32 0x44800000
 -- "a slider's end minus start at least 0.001"
 abbrev pub shortestSlider : Float
 shortestSlider = f64 0x3F50624DD2F1A9FC
+
+-- "lengths to 1,000,000"; order 4, a stated length "from 0 to 1,000,000"
+abbrev pub longestLength : Float
+longestLength = f64 0x412E848000000000
 
 -- from low to high, both included; a NaN or an infinity is in no range of finite ends
 abbrev pub within : Float → Float → Float → Bool

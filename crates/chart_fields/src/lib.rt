@@ -5,13 +5,15 @@ ghost use Prim.Native.Nat.{_+_, _<_, _≤_};
 ghost use lib.ListN.{length};
 ghost use Rattle.chart_fields.specs.Limits.{objectSize};
 ghost use Rattle.chart_fields.specs.Search.{firstBelow};
-ghost use Rattle.chart_fields.specs.Objects.{Holds, fieldsAt, fieldsOf, timeOk, coordinateOk, stackOk};
+ghost use Rattle.chart_fields.specs.Objects.{Holds, statedLength, fieldsAt, fieldsOf, timeOk, coordinateOk, stackOk};
 ghost use Rattle.chart_fields.specs.Objects.{countOk, plainOk, sliderOk, kindOk, fieldsOk, badFields, falls};
 
-// The bytes of a chart's header, and of an object.
+// The bytes of a chart's header, of an object, and of one with a stated length.
 pub const HEADER_SIZE: usize = 80;
 
 pub const OBJECT_SIZE: usize = 56;
+
+pub const STATED_SIZE: usize = 64;
 
 // The kinds of objects.
 pub const CIRCLE: u32 = 0;
@@ -34,6 +36,9 @@ const MOST_PER_SLIDER: usize = 1_024;
 // A slider's end minus its start, at least.
 const SHORTEST_SLIDER: f64 = 0.001;
 
+// The length of a path, at most.
+pub const LONGEST_PATH: f64 = 1_000_000.0;
+
 // The counts of a chart, an object's size in bytes, and the offsets of the two tables behind the objects: read from the header once.
 pub struct Layout {
     pub n: usize,
@@ -44,7 +49,7 @@ pub struct Layout {
     pub points_at: usize,
 }
 
-// An object's fields as they are stored, whatever they hold.
+// An object's fields as they are stored, whatever they hold; the length is the one that a slider states, 0 for the drawn one.
 pub struct Fields {
     pub start: f64,
     pub end: f64,
@@ -58,12 +63,24 @@ pub struct Fields {
     pub nested_count: usize,
     pub first_point: usize,
     pub point_count: usize,
+    pub length: f64,
 }
 
-// The fields of the object at an offset.
-pub fn fields_at(s: &[u8], at: usize) -> Fields
-    requires { ⌜ at + objectSize ≤ length (now s) ⌝ }
-    ensures { λ r. ⌜ r ≡ fieldsAt (now (s .entry)) at ⌝ }
+// The stated length of the object of a size at an offset, 0 where objects of that size have none.
+fn stated_length(s: &[u8], at: usize, size: usize) -> f64
+    requires { ⌜ at + size ≤ length (now s) ⌝ }
+    ensures { λ r. ⌜ r ≡ statedLength (now (s .entry)) at size ⌝ }
+{
+    if size == STATED_SIZE {
+        return num_floats::f64_at(s, at + OBJECT_SIZE);
+    }
+    0.0
+}
+
+// The fields of the object of a size at an offset.
+pub fn fields_at(s: &[u8], at: usize, size: usize) -> Fields
+    requires { ⌜ (objectSize ≤ size) × (at + size ≤ length (now s)) ⌝ }
+    ensures { λ r. ⌜ r ≡ fieldsAt (now (s .entry)) at size ⌝ }
 {
     Fields {
         start: num_floats::f64_at(s, at),
@@ -78,6 +95,7 @@ pub fn fields_at(s: &[u8], at: usize) -> Fields
         nested_count: num_floats::count_at(s, at + 44),
         first_point: num_floats::count_at(s, at + 48),
         point_count: num_floats::count_at(s, at + 52),
+        length: stated_length(s, at, size),
     }
 }
 
@@ -86,7 +104,7 @@ pub fn fields_of(chart: &[u8], lay: Layout, i: usize) -> Fields
     requires { ⌜ Holds (now chart) lay × (i < lay .n) ⌝ }
     ensures { λ r. ⌜ r ≡ fieldsOf (now (chart .entry)) lay i ⌝ }
 {
-    fields_at(chart, HEADER_SIZE + lay.object_size * i)
+    fields_at(chart, HEADER_SIZE + lay.object_size * i, lay.object_size)
 }
 
 // Whether t is a time: 0 to 10,000,000 ms.
@@ -117,7 +135,7 @@ fn count_ok(n: usize) -> bool
     (1 <= n) & (n <= MOST_PER_SLIDER)
 }
 
-// Whether the last five fields are 0, as a circle's and a spinner's are.
+// Whether the last five of the old fields and the length are 0, as a circle's and a spinner's are.
 fn plain_ok(f: Fields) -> bool
     ensures { λ r. ⌜ r ≡ plainOk f ⌝ }
 {
@@ -126,9 +144,10 @@ fn plain_ok(f: Fields) -> bool
         & (f.nested_count == 0)
         & (f.first_point == 0)
         & (f.point_count == 0)
+        & (f.length == 0.0)
 }
 
-// Whether the length in time and the counts are a slider's.
+// Whether the length in time, the counts and the stated length are a slider's.
 fn slider_ok(f: Fields) -> bool
     ensures { λ r. ⌜ r ≡ sliderOk f ⌝ }
 {
@@ -136,9 +155,10 @@ fn slider_ok(f: Fields) -> bool
         & count_ok(f.spans as usize)
         & count_ok(f.nested_count)
         & count_ok(f.point_count)
+        & ((0.0 <= f.length) & (f.length <= LONGEST_PATH))
 }
 
-// Whether the kind is one of the three, and the end and the last five fields are right for it.
+// Whether the kind is one of the three, and the end, the fields behind it and the length are right for it.
 fn kind_ok(f: Fields) -> bool
     ensures { λ r. ⌜ r ≡ kindOk f ⌝ }
 {

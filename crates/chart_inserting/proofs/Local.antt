@@ -40,7 +40,7 @@ module _ (s : List ℕ) (place : ℕ) (object : List ℕ)
   lay′ = layoutOf new
 
   abbrev f : Fields
-  f = fieldsAt object 0
+  f = fieldsAt object 0 (lay .«object_size»)
 
   more : OneMore place s new
   more = I.one-more s place object h hp room ho
@@ -149,7 +149,7 @@ module _ (s : List ℕ) (place : ℕ) (object : List ℕ)
 
 -- what the call tests is what order 1 asks
 pub at-insert : (s : List ℕ) (place : ℕ) (object : List ℕ) → Opens s → place ≤ layoutOf s .n → noRoom s ≡ false → length object ≡ layoutOf s .«object_size»
-    → firstOf (insertLocal s (layoutOf s) (settingsOf s .«clock_rate») place (fieldsAt object 0)) ≡ firstOf (insertPlaceConditions s place object)
+    → firstOf (insertLocal s (layoutOf s) (settingsOf s .«clock_rate») place (fieldsAt object 0 (layoutOf s .«object_size»))) ≡ firstOf (insertPlaceConditions s place object)
 unfolding insertPlaceConditions firstOf
 at-insert s place object o h r l =
     let ok = header-ok s o in

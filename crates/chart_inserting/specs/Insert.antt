@@ -63,7 +63,7 @@ removeObject place s =
 
 -- ---- The conditions
 
--- "9 [..] when an insertion finds fewer than 56 free bytes or N is 16,384"
+-- "9 [..] when an insertion finds fewer than 56 free bytes or N is 16,384"; order 4: "insertions need [..] 64 bytes" in charts of such objects
 unfoldable pub noRoom : List ℕ → Bool
 noRoom s = ltb (length s) (chartLength s + layoutOf s .«object_size») || leb mostObjects (layoutOf s .n)
 

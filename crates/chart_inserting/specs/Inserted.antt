@@ -191,6 +191,6 @@ module _ (s : List ℕ) (place : ℕ) (object : List ℕ)
   unfolding part
   object-whole = sym (take-all size object (omega (arith, ho)))
 
-  pub here : fieldsOf new (layoutOf new) place ≡ fieldsAt object 0
+  pub here : fieldsOf new (layoutOf new) place ≡ fieldsAt object 0 size
   unfolding fieldsOf
   here = rw layout (fields-same (part-same at 0 size new object (object-part ∙ object-whole)) (W.size-least s))

@@ -169,7 +169,8 @@ module _ (s t : List ℕ) (c : countBytes t ≡ countBytes s) (b : settingBytes 
 
   pub layout-by : (n : ℕ) → u32At t 0 ≡ n → layoutOf t ≡ layoutFor (layoutOf s) n
   unfolding layoutOf
-  layout-by n e = cc (e, u32-same counts-same (omega arith), u32-same (shift counts-same 4 4 (omega arith)) (omega arith))
+  layout-by n e =
+      cc (e, u32-same counts-same (omega arith), u32-same (shift counts-same 4 4 (omega arith)) (omega arith), u32-same others-same (omega arith))
 
 -- a layout is the one of its own count
 pub layout-own : (s : List ℕ) → layoutFor (layoutOf s) (layoutOf s .n) ≡ layoutOf s

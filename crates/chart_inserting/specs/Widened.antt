@@ -12,7 +12,8 @@ use Rattle.chart_fields.specs.Same.{fields-same}
 use Rattle.chart_fields.specs.declared.Layout.{Layout}
 use Rattle.chart_entries.specs.Entries.{nestedOf, pointOf}
 use Rattle.chart_entries.specs.Same.{nested-same, point-same, SameBelow}
-use Rattle.chart_opening.specs.Header.{layoutOf, layoutEnd, settingsOf}
+use Rattle.chart_opening.proofs.Header as H
+use Rattle.chart_opening.specs.Header.{formatOf, layoutOf, layoutEnd, settingsOf}
 use Rattle.chart_replacing.specs.Put.{part-same}
 use Rattle.chart_replacing.specs.Replace.{objectBytes}
 use Rattle.chart_inserting.specs.Insert.{nestedFor, pointsFor, layoutFor}
@@ -31,7 +32,7 @@ pub record Widened (k : ℕ) (s t : List ℕ) : Type 0 where
 -- what a layout is made of
 pub size-least : (s : List ℕ) → objectSize ≤ layoutOf s .«object_size»
 unfolding layoutOf
-size-least s = omega arith
+size-least s = H.size-least (formatOf s)
 
 pub nested-at : (s : List ℕ) → layoutOf s .«nested_at» ≡ nestedFor (layoutOf s) (layoutOf s .n)
 unfolding layoutOf

@@ -94,7 +94,7 @@ fn check_insert_at(chart: &[u8], place: usize, object: &[u8]) -> Verdict
         return Verdict::Refused(Refusal::Object(place));
     }
     let settings = chart_opening::settings_at(chart, 32);
-    let f = chart_fields::fields_at(object, 0);
+    let f = chart_fields::fields_at(object, 0, lay.object_size);
     let long = long_with(chart, lay, settings.clock_rate, place, f);
     chart_replacing::check_object(chart, lay, place, place, f, long)
 }

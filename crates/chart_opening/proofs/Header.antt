@@ -1,17 +1,18 @@
 -- What an accepted header tells. Assumes nothing.
 use Prim.Native.Nat.{ℕ, _+_, _*_, _^_, _≤_, _<_}
 use mathlib.Core.Path.{_≡_, refl}
-use mathlib.Core.Bool.{Bool, true, false, _&&_}
+use mathlib.Core.Bool.{Bool, true, false, cond, _&&_}
 use mathlib.Core.List.{List}
 use lib.Dec.{eqb}
 use lib.ListN.{length}
+use native.Mathlib.Nat.{mul-le-mul}
 use native.Mathlib.Omega.{arith}
 use borrow.Author.Tests.{leb-true, eqb-true, le-leb, eq-eqb}
 use Rattle.num_floats.specs.Fields.{u32At}
-use Rattle.chart_fields.specs.Limits.{headerSize, pointSize, mostObjects, mostEntries}
+use Rattle.chart_fields.specs.Limits.{headerSize, objectSize, statedSize, pointSize, mostObjects, mostEntries}
 use Rattle.chart_fields.specs.Objects.{Holds}
 use Rattle.chart_fields.specs.declared.Layout.{Layout}
-use Rattle.chart_opening.specs.Header.{layoutOf, countsOk, offsetsOk, reservedOk, headerOk, chartLength, layoutEnd}
+use Rattle.chart_opening.specs.Header.{sizeFor, formatOf, layoutOf, countsOk, offsetsOk, reservedOk, headerOk, chartLength, layoutEnd}
 
 pub both : (a b : Bool) → (a && b) ≡ true → (a ≡ true) × (b ≡ true)
 both true b e = (refl, e)
@@ -33,10 +34,27 @@ pub few-by : (lay : Layout) → Few lay → countsOk lay ≡ true
 unfolding countsOk
 few-by lay f = simp (le-leb (lay .n) mostObjects (f .objects), le-leb (lay .nested) mostEntries (f .nested), le-leb (lay .points) mostEntries (f .points))
 
+-- an object has one of the two sizes
+pub size-least : (format : ℕ) → objectSize ≤ sizeFor format
+unfolding sizeFor
+size-least format = go (eqb format 1)
+  where
+    go : (b : Bool) → objectSize ≤ cond b statedSize objectSize
+    go true = omega arith
+    go false = omega arith
+
+pub size-most : (format : ℕ) → sizeFor format ≤ statedSize
+unfolding sizeFor
+size-most format = go (eqb format 1)
+  where
+    go : (b : Bool) → cond b statedSize objectSize ≤ statedSize
+    go true = omega arith
+    go false = omega arith
+
 -- the tables' ends fit a word
 pub ends-fit : (s : List ℕ) → countsOk (layoutOf s) ≡ true → layoutOf s .«points_at» + pointSize * layoutOf s .points < 2 ^ 64
 unfolding layoutOf
-ends-fit s e = let f = few (layoutOf s) e in omega (arith, f .objects, f .nested, f .points)
+ends-fit s e = let f = few (layoutOf s) e in omega (arith, mul-le-mul (size-most (formatOf s)) (f .objects), f .nested, f .points)
 
 -- the parts of condition 1
 pub record Parts (s : List ℕ) : Type 0 where
@@ -101,8 +119,8 @@ holds s e =
       few = f .objects;
       few-nested = f .nested;
       few-points = f .points;
-      size-least = omega arith;
-      size-most = omega arith;
+      size-least = size-least (formatOf s);
+      size-most = size-most (formatOf s);
       objects = omega arith;
       nested-in = omega arith;
       points-in = omega (arith, o .ends, o .fits);

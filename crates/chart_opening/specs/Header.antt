@@ -1,6 +1,6 @@
 -- Document 01, "The chart": the header and its settings; conditions 1, 2 and 6 of "What each call answers". Definitions only.
 use Prim.Native.Nat.{ℕ, _+_, _*_, _-_, _/_, _%_}
-use mathlib.Core.Bool.{Bool, not, _&&_}
+use mathlib.Core.Bool.{Bool, cond, not, _&&_}
 use mathlib.Core.List.{List}
 use lib.Dec.{leb, ltb, eqb}
 use lib.ListN.{length}
@@ -8,11 +8,18 @@ use lib.Ieee as Ieee
 use lib.Ieee.{Float}
 use Rattle.num_floats.specs.Fields.{u32At, f64At, f32At}
 use Rattle.num_floats.specs.Numbers.{_⊖_, _⊘_, one64}
-use Rattle.chart_fields.specs.Limits.{headerSize, objectSize, nestedSize, pointSize, mostObjects, mostEntries, within}
+use Rattle.chart_fields.specs.Limits.{headerSize, objectSize, statedSize, nestedSize, pointSize, mostObjects, mostEntries, within}
 use Rattle.chart_fields.specs.Objects.{fieldsOf}
 use Rattle.chart_fields.specs.declared.Layout.{Layout}
 use Rattle.chart_opening.specs.Limits.{settingsStart, slowestClock, fastestClock, largestRadius, smallestFactor, largestFactor, widestWindow, longestFade, longestChart}
 use Rattle.chart_opening.specs.declared.Settings.{Settings}
+
+-- document 02, order 4: "The word at 28 is 1 for such charts", whose objects have 64 bytes, "and 0 for the old"
+unfoldable pub sizeFor : ℕ → ℕ
+sizeFor format = cond (eqb format 1) statedSize objectSize
+
+abbrev pub formatOf : List ℕ → ℕ
+formatOf s = u32At s 28
 
 -- "u32 at 0 object count N, 4 nested count, 8 point count"; "Objects start at 80; nested and points follow without gaps"
 unfoldable pub layoutOf : List ℕ → Layout
@@ -20,9 +27,9 @@ layoutOf s = record {
   n = u32At s 0;
   nested = u32At s 4;
   points = u32At s 8;
-  «object_size» = objectSize;
-  «nested_at» = headerSize + objectSize * u32At s 0;
-  «points_at» = headerSize + objectSize * u32At s 0 + nestedSize * u32At s 4;
+  «object_size» = sizeFor (formatOf s);
+  «nested_at» = headerSize + sizeFor (formatOf s) * u32At s 0;
+  «points_at» = headerSize + sizeFor (formatOf s) * u32At s 0 + nestedSize * u32At s 4;
 }
 
 -- "N at most 16,384; nested and points at most 65,536 each"
@@ -44,9 +51,9 @@ offsetsOk s lay =
     eqb (u32At s 12) headerSize && eqb (u32At s 16) (lay .«nested_at») && eqb (u32At s 20) (lay .«points_at»)
     && eqb (chartLength s) (layoutEnd lay) && leb (chartLength s) (length s)
 
--- "28 zero"; "u32 at 76 flags: bit 0 hidden, bit 1 autopilot, others zero"
+-- the word at 28 is 0 or 1 (order 4); "u32 at 76 flags: bit 0 hidden, bit 1 autopilot, others zero"
 unfoldable pub reservedOk : List ℕ → Bool
-reservedOk s = eqb (u32At s 28) 0 && ltb (u32At s 76) 4
+reservedOk s = leb (formatOf s) 1 && ltb (u32At s 76) 4
 
 -- "1 header, length, counts, offsets or reserved bits wrong": this is their being right
 unfoldable pub headerOk : List ℕ → Bool

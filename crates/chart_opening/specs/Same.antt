@@ -26,7 +26,13 @@ settings-same s h =
 module _ {a b : List ℕ} (s : Same a 0 b 0 headerSize) where
   pub layout-of-same : layoutOf a ≡ layoutOf b
   unfolding layoutOf
-  layout-of-same = cc (u32-same s (omega arith), u32-same (shift s 4 4 (omega arith)) (omega arith), u32-same (shift s 8 4 (omega arith)) (omega arith))
+  layout-of-same =
+      cc (
+        u32-same s (omega arith),
+        u32-same (shift s 4 4 (omega arith)) (omega arith),
+        u32-same (shift s 8 4 (omega arith)) (omega arith),
+        u32-same (shift s 28 4 (omega arith)) (omega arith),
+      )
 
   pub settings-of-same : settingsOf a ≡ settingsOf b
   settings-of-same = settings-same (shift s settingsStart settingsSize (omega arith)) (omega arith)

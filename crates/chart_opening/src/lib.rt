@@ -6,7 +6,7 @@ ghost use lib.ListN.{length};
 ghost use Rattle.chart_fields.specs.Limits.{headerSize, pointSize};
 ghost use Rattle.chart_fields.specs.Objects.{Holds};
 ghost use Rattle.chart_opening.specs.Limits.{settingsSize};
-ghost use Rattle.chart_opening.specs.Header.{layoutOf, countsOk, offsetsOk, reservedOk, headerOk, settingsAt, settingsOk, farApart, tooLong};
+ghost use Rattle.chart_opening.specs.Header.{sizeFor, layoutOf, countsOk, offsetsOk, reservedOk, headerOk, settingsAt, settingsOk, farApart, tooLong};
 ghost use Rattle.chart_opening.specs.Conditions.{refusalNumber, refusalPlace, firstOf, bodyConditions, openVerdict};
 use chart_fields::Layout;
 
@@ -77,7 +77,17 @@ impl Refusal {
     }
 }
 
-// The layout that the counts of a header ask for; whether the rest of the header agrees is condition 1.
+// The bytes of an object by the word at 28.
+fn size_for(format: u32) -> usize
+    ensures { λ r. ⌜ r ≡ sizeFor format ⌝ }
+{
+    if format == 1 {
+        return chart_fields::STATED_SIZE;
+    }
+    chart_fields::OBJECT_SIZE
+}
+
+// The layout that the counts of a header and its word at 28 ask for; whether the rest of the header agrees is condition 1.
 pub fn layout_of(s: &[u8]) -> Layout
     requires { ⌜ headerSize ≤ length (now s) ⌝ }
     ensures { λ r. ⌜ r ≡ layoutOf (now (s .entry)) ⌝ }
@@ -85,12 +95,13 @@ pub fn layout_of(s: &[u8]) -> Layout
     let n = num_floats::u32_at(s, 0) as usize;
     let nested = num_floats::u32_at(s, 4) as usize;
     let points = num_floats::u32_at(s, 8) as usize;
-    let nested_at = chart_fields::HEADER_SIZE + chart_fields::OBJECT_SIZE * n;
+    let size = size_for(num_floats::u32_at(s, 28));
+    let nested_at = chart_fields::HEADER_SIZE + size * n;
     Layout {
         n: n,
         nested: nested,
         points: points,
-        object_size: chart_fields::OBJECT_SIZE,
+        object_size: size,
         nested_at: nested_at,
         points_at: nested_at + 24 * nested,
     }
@@ -115,12 +126,12 @@ fn offsets_ok(s: &[u8], lay: Layout) -> bool
         & (num_floats::count_at(s, 24) <= s.len())
 }
 
-// Whether the word at 28 and the flags' reserved bits are 0.
+// Whether the word at 28 is one of the two, and the flags' reserved bits are 0.
 fn reserved_ok(s: &[u8]) -> bool
     requires { ⌜ headerSize ≤ length (now s) ⌝ }
     ensures { λ r. ⌜ r ≡ reservedOk (now (s .entry)) ⌝ }
 {
-    (num_floats::u32_at(s, 28) == 0) & (num_floats::u32_at(s, 76) < 4)
+    (num_floats::u32_at(s, 28) <= 1) & (num_floats::u32_at(s, 76) < 4)
 }
 
 // Whether the header is right: condition 1 is that it is not.

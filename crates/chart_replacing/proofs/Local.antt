@@ -39,7 +39,10 @@ module _ (s : List ℕ) (place : ℕ) (object : List ℕ)
   abbrev lay : Layout
   lay = layoutOf s
 
-  here : fieldsOf (putObject place object s) lay place ≡ fieldsAt object 0
+  abbrev f : Fields
+  f = fieldsAt object 0 (lay .«object_size»)
+
+  here : fieldsOf (putObject place object s) lay place ≡ f
   here = R.here s place object H hp ho
 
   elsewhere : (j : ℕ) → (j ≡ place → ⊥) → fieldsOf (putObject place object s) lay j ≡ fieldsOf s lay j
@@ -48,7 +51,7 @@ module _ (s : List ℕ) (place : ℕ) (object : List ℕ)
   wrong : (f : Fields) → wrongEntries (putObject place object s) lay f ≡ wrongEntries s lay f
   wrong = wrong-same (R.entries s place object H hp ho)
 
-  fields-here : badFields (putObject place object s) lay place ≡ not (fieldsOk (fieldsAt object 0))
+  fields-here : badFields (putObject place object s) lay place ≡ not (fieldsOk f)
   unfolding badFields
   fields-here = cc here
 
@@ -56,25 +59,25 @@ module _ (s : List ℕ) (place : ℕ) (object : List ℕ)
   unfolding badFields
   fields-else j q = cc (elsewhere j q)
 
-  entries-here : badEntries (putObject place object s) lay place ≡ wrongEntries s lay (fieldsAt object 0)
+  entries-here : badEntries (putObject place object s) lay place ≡ wrongEntries s lay f
   unfolding badEntries
-  entries-here = simp here (wrong (fieldsAt object 0))
+  entries-here = simp here (wrong f)
 
   entries-else : (j : ℕ) → (j ≡ place → ⊥) → badEntries (putObject place object s) lay j ≡ badEntries s lay j
   unfolding badEntries
   entries-else j q = simp (elsewhere j q) (wrong (fieldsOf s lay j))
 
-  falls-here : falls (putObject place object s) lay place ≡ fallsHere s lay place (fieldsAt object 0)
+  falls-here : falls (putObject place object s) lay place ≡ fallsHere s lay place f
   unfolding falls fallsHere
   falls-here = go (ltb 0 place) refl
     where
       go : (b : Bool) → ltb 0 place ≡ b
           → (b && Ieee.lt (fieldsOf (putObject place object s) lay place .start) (fieldsOf (putObject place object s) lay (place - 1) .start))
-          ≡ (b && Ieee.lt (fieldsAt object 0 .start) (fieldsOf s lay (place - 1) .start))
+          ≡ (b && Ieee.lt (f .start) (fieldsOf s lay (place - 1) .start))
       go true e = cc (here, elsewhere (place - 1) (λ q. omega (arith, ltb-true 0 place e)))
       go false e = refl
 
-  falls-next : (ltb (place + 1) (lay .n) && falls (putObject place object s) lay (place + 1)) ≡ fallsNext s lay (place + 1) (fieldsAt object 0)
+  falls-next : (ltb (place + 1) (lay .n) && falls (putObject place object s) lay (place + 1)) ≡ fallsNext s lay (place + 1) f
   unfolding falls fallsNext
   falls-next =
       let z : place + 1 - 1 ≡ place = omega arith in
@@ -85,30 +88,30 @@ module _ (s : List ℕ) (place : ℕ) (object : List ℕ)
   unfolding falls
   falls-else j q q′ = cc (elsewhere j q, elsewhere (j - 1) (λ r. omega (arith, q, q′)))
 
-  start-new : (j : ℕ) → fieldsOf (putObject place object s) lay j .start ≡ newStart s lay place (fieldsAt object 0) j
+  start-new : (j : ℕ) → fieldsOf (putObject place object s) lay j .start ≡ newStart s lay place f j
   unfolding newStart
   start-new j = go (ℕ-discrete j place)
     where
-      go : Dec (j ≡ place) → fieldsOf (putObject place object s) lay j .start ≡ cond (eqb j place) (fieldsAt object 0 .start) (fieldsOf s lay j .start)
+      go : Dec (j ≡ place) → fieldsOf (putObject place object s) lay j .start ≡ cond (eqb j place) (f .start) (fieldsOf s lay j .start)
       go (yes q) = simp (q, eq-eqb place place refl, here)
       go (no q) = simp (ne-eqb j place q, elsewhere j q)
 
-  long-new : (clock : Float) → tooLong (putObject place object s) lay clock ≡ newTooLong s lay clock place (fieldsAt object 0)
+  long-new : (clock : Float) → tooLong (putObject place object s) lay clock ≡ newTooLong s lay clock place f
   unfolding tooLong newTooLong
   long-new clock = cc (start-new (lay .n - 1), start-new 1)
 
-  pub local : (clock : Float) → Clean s lay clock → firstOf (newConditions s lay clock place (fieldsAt object 0)) ≡ firstOf (bodyConditions (putObject place object s) lay clock)
+  pub local : (clock : Float) → Clean s lay clock → firstOf (newConditions s lay clock place f) ≡ firstOf (bodyConditions (putObject place object s) lay clock)
   unfolding objectConditions bodyConditions
   local clock C =
       let e3 = one Object (badFields (putObject place object s) lay) (lay .n) place hp (λ j l q. fields-else j q ∙ C .fields j l) in
       let e4 = one Entries (badEntries (putObject place object s) lay) (lay .n) place hp (λ j l q. entries-else j q ∙ C .entries j l) in
       let e5 = two Order (falls (putObject place object s) lay) (lay .n) place hp (λ j l q q′. falls-else j q q′ ∙ C .order j l) in
       simp (e3, e4, fields-here, entries-here, long-new clock)
-      (same-rest _ _ _ (same-rest _ _ _ (sym (e5 (refuseIf (newTooLong s lay clock place (fieldsAt object 0)) Length ∷ []) ∙ simp (falls-here, falls-next)))))
+      (same-rest _ _ _ (same-rest _ _ _ (sym (e5 (refuseIf (newTooLong s lay clock place f) Length ∷ []) ∙ simp (falls-here, falls-next)))))
 
 -- what the call tests is what document 01 asks
 pub at-place : (s : List ℕ) (place : ℕ) (object : List ℕ) → Opens s → place < layoutOf s .n → length object ≡ layoutOf s .«object_size»
-    → firstOf (newConditions s (layoutOf s) (settingsOf s .«clock_rate») place (fieldsAt object 0)) ≡ firstOf (placeConditions s place object)
+    → firstOf (newConditions s (layoutOf s) (settingsOf s .«clock_rate») place (fieldsAt object 0 (layoutOf s .«object_size»))) ≡ firstOf (placeConditions s place object)
 unfolding placeConditions firstOf
 at-place s place object o h l =
     let H = holds s (header-ok s o) in

@@ -86,9 +86,9 @@ module _ (s : List ℕ) (place : ℕ) (object : List ℕ)
   place-kept j d = rw layout (elsewhere-part j d)
 
   -- ---- what they hold
-  pub here : fieldsOf new lay place ≡ fieldsAt object 0
+  pub here : fieldsOf new lay place ≡ fieldsAt object 0 (lay .«object_size»)
   unfolding fieldsOf putObject
-  here = fields-same (same-inside s (objectAt lay place) object fits) (omega (arith, ho, H .size-least))
+  here = fields-same (rw ho at (same-inside s (objectAt lay place) object fits)) (H .size-least)
 
   pub elsewhere : (j : ℕ) → (j ≡ place → ⊥) → fieldsOf new lay j ≡ fieldsOf s lay j
   unfolding fieldsOf

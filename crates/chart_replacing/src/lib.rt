@@ -130,7 +130,7 @@ fn check_at(chart: &[u8], place: usize, object: &[u8]) -> Verdict
         return Verdict::Refused(Refusal::Object(place));
     }
     let settings = chart_opening::settings_at(chart, 32);
-    let f = chart_fields::fields_at(object, 0);
+    let f = chart_fields::fields_at(object, 0, lay.object_size);
     check_new(chart, lay, settings.clock_rate, place, f)
 }
 

@@ -1,6 +1,7 @@
 -- What the calls answer on a chart within the limit: opening as conditions 1 to 6 say, readings and totals what the filled table holds.
 -- Assumes nothing.
 use Prim.Native.Nat.{ℕ, _+_, _*_, _/_, _≤_, _<_}
+use native.Mathlib.Nat.{mul-le-mul, le-refl}
 use native.Mathlib.Omega.{arith}
 use mathlib.Core.Path.{_≡_, refl, sym, ap, _∙_, subst}
 use mathlib.Core.Bool.{Bool, false, _||_}
@@ -39,8 +40,9 @@ use Rattle.listing.specs.List.{limit, mostListed, metText, totalsAfresh,
 -- ---- Opening
 
 pub few-objects : (b : List ℕ) → Opens b → length b ≤ limit → layoutOf b .n ≤ mostListed
-unfolding layoutOf
-few-objects b o h = let k = holds b (header-ok b o) in omega (arith, k .objects, k .nested-in, k .points-in)
+few-objects b o h =
+    let k = holds b (header-ok b o) in
+    omega (arith, mul-le-mul (k .size-least) (le-refl (layoutOf b .n)), k .objects, k .nested-in, k .points-in)
 
 module _ (b : List ℕ) (rs vs : List Float) (within : length b ≤ limit) (room : Tables (length rs) (length vs)) where
   -- so condition 7 is never met

@@ -12,12 +12,12 @@ use Rattle.num_elementary.specs.Log.{logBits, logOf}
 use Rattle.num_elementary.specs.Power.{expOf, log10Of, powerOf, powerOther}
 use Rattle.num_elementary.specs.Two.{twoOf, twoRoot, twoRound}
 use Rattle.osu_pos.specs.Pos.{lengthOf}
-use Rattle.chart_fields.specs.Objects.{badFields, falls, fieldsAt, fieldsOf, fieldsOk}
+use Rattle.chart_fields.specs.Objects.{badFields, falls, fieldsAt, fieldsOf, fieldsOk, statedLength}
 use Rattle.chart_fields.specs.Search.{firstBelow, firstFrom}
 use Rattle.chart_entries.specs.Entries.{badEntries, lengthOk, nestedAt}
 use Rattle.osu_object.specs.Base.{baseOf, repeatsOf}
 use Rattle.osu_object.specs.Osu.{countBelow, endPos, kindOf, lastBelow, listFrom, objectOf, osuObject, repeatCount, runsOf}
-use Rattle.chart_opening.specs.Header.{countsOk, headerOk, layoutOf, offsetsOk, reservedOk, settingsAt, settingsOk, tooLong}
+use Rattle.chart_opening.specs.Header.{countsOk, headerOk, layoutOf, offsetsOk, reservedOk, settingsAt, settingsOk, sizeFor, tooLong}
 use Rattle.osu_difficulty_object.specs.Reading.{doubletapness, fadeIn, fadeOut}
 use Rattle.osu_difficulty_object.specs.Record.{angleTo, endCursor, jumpDist, jumpFrom, jumpOf, lastCursor, minJumpDist, minJumpTime, newRecord, placedOf, plainOf, recordOf as objectRecordOf}
 use Rattle.num_util.specs.Difficulty.{millisecondsToBpm, reverseLerp, smootherstep}
@@ -70,5 +70,5 @@ printed =
 
 -- the definitions named here are those that the computation runs through
 pub two-circles : listText twoCircles ≡ printed
-unfolding little add climb div eq le lt mul ne neg odd ofBits ofFields ofInt rem round size span sub sum toBits toSigned absOf clampOf maxOf minOf f32At f64At u32At u64At rootDrop rootKept rootOf ceilOf truncOf logBits logOf expOf log10Of powerOf powerOther twoOf twoRoot twoRound lengthOf badFields falls fieldsAt fieldsOf fieldsOk firstBelow firstFrom badEntries lengthOk nestedAt baseOf repeatsOf countBelow endPos kindOf lastBelow listFrom objectOf osuObject repeatCount runsOf countsOk headerOk layoutOf offsetsOk reservedOk settingsAt settingsOk tooLong doubletapness fadeIn fadeOut angleTo endCursor jumpDist jumpFrom jumpOf lastCursor minJumpDist minJumpTime newRecord placedOf plainOf objectRecordOf millisecondsToBpm reverseLerp smootherstep aimOf allParts anglesOf distBonus speedBonus speedOf strainTime speedBy cellOf rhythmBy runOf startFrom startOf rhythmValueOf factorOf fasterTwice rhythmFreshState freshWalk lastRatio progressedOf addedOf evaluatorOf flashlightOf flashlightFreshState hiddenOf opacityBonus repeatedOf sharedOf sliderBonus smallDistNerf stepOf turnsOf flashlightValueOf valuesOf insert sortDesc base closeOne closeTo column current elapsed initialStrain joined multiplier peaksTo reached strainAt strainDecay strainNext strains total totalTo walk clamped difficultyOf difficultyValue lerp positives reduced reduction sumFrom weighted decimalText decimalUpTo digit f64Text hexText countText numberText numbersText placeText refusalText skillsText totalsText deltaAt startAt chartRecord totalsOf ifAccepted freshValues bodyConditions chartConditions firstOf afreshText beyondText chartText listText metText openedText placesText
+unfolding little add climb div eq le lt mul ne neg odd ofBits ofFields ofInt rem round size span sub sum toBits toSigned absOf clampOf maxOf minOf f32At f64At u32At u64At rootDrop rootKept rootOf ceilOf truncOf logBits logOf expOf log10Of powerOf powerOther twoOf twoRoot twoRound lengthOf badFields falls fieldsAt fieldsOf fieldsOk statedLength firstBelow firstFrom badEntries lengthOk nestedAt baseOf repeatsOf countBelow endPos kindOf lastBelow listFrom objectOf osuObject repeatCount runsOf countsOk headerOk layoutOf offsetsOk reservedOk settingsAt settingsOk sizeFor tooLong doubletapness fadeIn fadeOut angleTo endCursor jumpDist jumpFrom jumpOf lastCursor minJumpDist minJumpTime newRecord placedOf plainOf objectRecordOf millisecondsToBpm reverseLerp smootherstep aimOf allParts anglesOf distBonus speedBonus speedOf strainTime speedBy cellOf rhythmBy runOf startFrom startOf rhythmValueOf factorOf fasterTwice rhythmFreshState freshWalk lastRatio progressedOf addedOf evaluatorOf flashlightOf flashlightFreshState hiddenOf opacityBonus repeatedOf sharedOf sliderBonus smallDistNerf stepOf turnsOf flashlightValueOf valuesOf insert sortDesc base closeOne closeTo column current elapsed initialStrain joined multiplier peaksTo reached strainAt strainDecay strainNext strains total totalTo walk clamped difficultyOf difficultyValue lerp positives reduced reduction sumFrom weighted decimalText decimalUpTo digit f64Text hexText countText numberText numbersText placeText refusalText skillsText totalsText deltaAt startAt chartRecord totalsOf ifAccepted freshValues bodyConditions chartConditions firstOf afreshText beyondText chartText listText metText openedText placesText
 two-circles = refl

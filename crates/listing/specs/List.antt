@@ -64,7 +64,7 @@ pub record Filled (b : List ℕ) (vs : List Float) : Type 0 where
   pub values : (j : ℕ) → 1 ≤ j → j < layoutOf b .n → row valueWidth vs j ≡ valuesAfresh b j
   pub totals : totalsOf (settingsOf b) b (row valueWidth vs) ≡ totalsAfresh b
 
--- the objects that a chart within the limit can have: each takes 56 bytes behind the header's 80
+-- the objects that a chart within the limit can have: each takes at least 56 bytes behind the header's 80
 abbrev pub mostListed : ℕ
 mostListed = 583
 

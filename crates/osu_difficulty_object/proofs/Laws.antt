@@ -122,16 +122,17 @@ run-in ns stack factor moved (suc left) s h =
     run-in ns stack factor moved left (stepOf s (nestedIn ns (orderOf moved (length ns) (length ns - suc left))) stack factor (eqb (suc left) 1))
     (step-in s (nestedIn ns (orderOf moved (length ns) (length ns - suc left))) stack factor (eqb (suc left) 1) h)
 
-start-in : (o : OsuObject) (ps : List Point) (progress : Float) → Held (startOf (stackedPos o) ps progress)
+start-in : (o : OsuObject) (ps : List Point) (stated progress : Float) → Held (startOf (stackedPos o) ps stated progress)
 unfolding startOf
-start-in o ps progress = record { cursor = sum-in (o .pos) (o .«stack_offset»); lazy-end = sum-in (stackedPos o) (positionAt ps (foldedOf progress)) }
+start-in o ps stated progress =
+    record { cursor = sum-in (o .pos) (o .«stack_offset»); lazy-end = sum-in (stackedPos o) (positionAt ps stated (foldedOf progress)) }
 
 from-in : (o : OsuObject) (end spans : Float) (ns : List Nested) (ps : List Point) (radius : Float) (t : Tracking) → InF32 (cursorFrom o end spans ns ps radius t .«lazy_end»)
 unfolding cursorFrom
 from-in o end spans ns ps radius t =
     run-in ns (o .«stack_offset») (normalizedRadius ⊘ radius) (t .moved) (length ns)
-    (startOf (stackedPos o) ps ((t .«end_time» ⊖ o .«start_time») ⊘ ((end ⊖ o .«start_time») ⊘ spans)))
-    (start-in o ps ((t .«end_time» ⊖ o .«start_time») ⊘ ((end ⊖ o .«start_time») ⊘ spans)))
+    (startOf (stackedPos o) ps (o .length) ((t .«end_time» ⊖ o .«start_time») ⊘ ((end ⊖ o .«start_time») ⊘ spans)))
+    (start-in o ps (o .length) ((t .«end_time» ⊖ o .«start_time») ⊘ ((end ⊖ o .«start_time») ⊘ spans)))
     .lazy-end
 
 zero-in : InF32 zeroPos

@@ -90,15 +90,15 @@ foldedOf x =
     (one64 ⊖ Ieee.rem binary64 x one64)
     (Ieee.rem binary64 x one64)
 
-unfoldable pub startOf : Pos → List Point → Float → CursorState
-startOf head ps progress = record { cursor = head; «lazy_end» = head +ₚ positionAt ps (foldedOf progress); «travel_dist» = zero64 }
+unfoldable pub startOf : Pos → List Point → Float → Float → CursorState
+startOf head ps stated progress = record { cursor = head; «lazy_end» = head +ₚ positionAt ps stated (foldedOf progress); «travel_dist» = zero64 }
 
 -- from the tracking on
 unfoldable pub cursorFrom : OsuObject → Float → Float → List Nested → List Point → Float → Tracking → Cursor
 cursorFrom o end spans ns ps radius t =
     let duration = end ⊖ o .«start_time» in
     let time = t .«end_time» ⊖ o .«start_time» in
-    let s = runOf ns (o .«stack_offset») (normalizedRadius ⊘ radius) (t .moved) (length ns) (startOf (stackedPos o) ps (time ⊘ (duration ⊘ spans))) in
+    let s = runOf ns (o .«stack_offset») (normalizedRadius ⊘ radius) (t .moved) (length ns) (startOf (stackedPos o) ps (o .length) (time ⊘ (duration ⊘ spans))) in
     record { «has_lazy_end» = true; «lazy_end» = s .«lazy_end»; «lazy_travel_dist» = s .«travel_dist»; «lazy_travel_time» = time }
 
 unfoldable pub sliderCursor : OsuObject → Float → Float → List Nested → List Point → Float → Cursor

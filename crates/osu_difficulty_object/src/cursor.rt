@@ -208,11 +208,18 @@ fn run(
 }
 
 // Where the walk starts, and the lazy end before it.
-fn start_state(chart: &[u8], lay: Layout, r: Runs, head: Pos, progress: f64) -> CursorState
+fn start_state(
+    chart: &[u8],
+    lay: Layout,
+    r: Runs,
+    head: Pos,
+    stated: f64,
+    progress: f64,
+) -> CursorState
     requires { ⌜ Slides (now chart) lay r ⌝ }
-    ensures { λ s. ⌜ s ≡ startOf head (pointList (now (chart .entry)) lay r) progress ⌝ }
+    ensures { λ s. ⌜ s ≡ startOf head (pointList (now (chart .entry)) lay r) stated progress ⌝ }
 {
-    let path = osu_object::position_at(chart, lay, r, folded(progress));
+    let path = osu_object::position_at(chart, lay, r, stated, folded(progress));
     let lazy_end = head.add(path);
     CursorState {
         cursor: head,
@@ -244,6 +251,7 @@ pub fn compute_slider_cursor_pos(
         lay,
         r,
         o.stacked_pos(),
+        o.length,
         travel_time / (duration / spans),
     );
     let scaling_factor = OsuDifficultyObject::NORMALIZED_RADIUS as f64 / radius;

@@ -44,7 +44,8 @@ record Counts (f : Fields) : Type 0 where
 
 slider-counts : (f : Fields) → sliderOk f ≡ true → Counts f
 slider-counts f e =
-    let p = both (Ieee.le (f64 0x3F50624DD2F1A9FC) (Ieee.sub binary64 (f .end) (f .start)) && countOk (f .spans) && countOk (f .«nested_count»)) (countOk (f .«point_count»)) e in
+    let m = both (Ieee.le (f64 0x3F50624DD2F1A9FC) (Ieee.sub binary64 (f .end) (f .start)) && countOk (f .spans) && countOk (f .«nested_count») && countOk (f .«point_count»)) _ e in
+    let p = both (Ieee.le (f64 0x3F50624DD2F1A9FC) (Ieee.sub binary64 (f .end) (f .start)) && countOk (f .spans) && countOk (f .«nested_count»)) (countOk (f .«point_count»)) (m .0) in
     let n = both (Ieee.le (f64 0x3F50624DD2F1A9FC) (Ieee.sub binary64 (f .end) (f .start)) && countOk (f .spans)) (countOk (f .«nested_count»)) (p .0) in
     record {
       nested = leb-true 1 (f .«nested_count») (both (leb 1 (f .«nested_count»)) (leb (f .«nested_count») 1024) (n .1) .0);
@@ -98,7 +99,8 @@ not-slider false b false false q s e = e
 
 plain-within : (lay : Layout) (f : Fields) → plainOk f ≡ true → Within lay f
 plain-within lay f e =
-    let (d, pc) = both (eqb (f .spans) 0 && eqb (f .«first_nested») 0 && eqb (f .«nested_count») 0 && eqb (f .«first_point») 0) (eqb (f .«point_count») 0) e in
+    let (five, _) = both (eqb (f .spans) 0 && eqb (f .«first_nested») 0 && eqb (f .«nested_count») 0 && eqb (f .«first_point») 0 && eqb (f .«point_count») 0) _ e in
+    let (d, pc) = both (eqb (f .spans) 0 && eqb (f .«first_nested») 0 && eqb (f .«nested_count») 0 && eqb (f .«first_point») 0) (eqb (f .«point_count») 0) five in
     let (c, fp) = both (eqb (f .spans) 0 && eqb (f .«first_nested») 0 && eqb (f .«nested_count») 0) (eqb (f .«first_point») 0) d in
     let (b, nc) = both (eqb (f .spans) 0 && eqb (f .«first_nested») 0) (eqb (f .«nested_count») 0) c in
     let (_, fn) = both (eqb (f .spans) 0) (eqb (f .«first_nested») 0) b in

@@ -1,37 +1,52 @@
--- The lookup on a path, from what the calls of `position_at` answer. Assumes nothing.
+-- The lookup on a path, from what the calls of `on_path`, `beyond` and `position_at` answer. Assumes nothing.
 use Prim.Native.Nat.{ℕ, _-_}
-use mathlib.Core.Path.{_≡_, sym, ap, _∙_}
+use mathlib.Core.Path.{_≡_}
+use mathlib.Core.Bool.{true, false}
 use mathlib.Core.List.{List}
 use lib.ListN.{length}
+use lib.Ieee as Ieee
 use lib.Ieee.{Float}
 use borrow.Author.Tests.{eq-eqb, ne-eqb}
-use Rattle.num_floats.specs.Numbers.{_⊗_}
+use Rattle.num_floats.specs.Numbers.{_⊖_, _⊗_}
 use Rattle.chart_entries.specs.declared.Point.{Point}
 use Rattle.osu_object.specs.Osu.{pointIn}
-use Rattle.osu_object.specs.Path.{pointPos, segmentOf, between, lookupAt, lookup, positionAt}
+use Rattle.osu_object.specs.Path.{pointPos, segmentOf, between, lookupAt, leastApart, endsShort, prolonged, lookup, wholeLength, positionAt}
 
-at-length : (ps : List Point) (s : Float) (n : ℕ) (last : Point) → length ps ≡ n → last ≡ pointIn ps (n - 1)
-    → positionAt ps s ≡ lookup ps (s ⊗ last .length)
-unfolding positionAt
-at-length ps s n last e h = ap (λ (p : Point). lookup ps (s ⊗ p .length)) (ap (λ (k : ℕ). pointIn ps (k - 1)) e ∙ sym h)
+-- ---- on the path as it is drawn
 
-at-segment : (ps : List Point) (d : Float) (i : ℕ) → i ≡ segmentOf ps d → lookup ps d ≡ lookupAt ps d i
-unfolding lookup
-at-segment ps d i h = ap (λ (k : ℕ). lookupAt ps d k) (sym h)
+module _ (ps : List Point) (d : Float) (i : ℕ) (g : i ≡ segmentOf ps d) (p1 : Point) (h : p1 ≡ pointIn ps i) where
+  pub path-first : i ≡ 0 → pointPos p1 ≡ lookupAt ps d (segmentOf ps d)
+  unfolding lookupAt
+  path-first z = simp (← g, eq-eqb i 0 z, h)
 
-at-first : (ps : List Point) (d : Float) (i : ℕ) (p1 : Point) → i ≡ 0 → p1 ≡ pointIn ps i → pointPos p1 ≡ lookupAt ps d i
-unfolding lookupAt
-at-first ps d i p1 z h = simp (eq-eqb i 0 z, h)
+  pub path-line : (p0 : Point) → p0 ≡ pointIn ps (i - 1) → (i ≡ 0 → ⊥) → between p0 p1 d ≡ lookupAt ps d (segmentOf ps d)
+  unfolding lookupAt
+  path-line p0 f z = simp (← g, ne-eqb i 0 z, h, f)
 
-at-line : (ps : List Point) (d : Float) (i : ℕ) (p0 p1 : Point) → (i ≡ 0 → ⊥) → p1 ≡ pointIn ps i → p0 ≡ pointIn ps (i - 1)
-    → between p0 p1 d ≡ lookupAt ps d i
-unfolding lookupAt
-at-line ps d i p0 p1 z h g = simp (ne-eqb i 0 z, h, g)
+-- ---- beyond its end
 
-module _ (ps : List Point) (s : Float) (n : ℕ) (last : Point) (e : length ps ≡ n) (l : last ≡ pointIn ps (n - 1)) (i : ℕ) (g : i ≡ segmentOf ps (s ⊗ last .length)) (p1 : Point) (h : p1 ≡ pointIn ps i) where
-  pub position-first : i ≡ 0 → pointPos p1 ≡ positionAt ps s
-  position-first z = at-first ps (s ⊗ last .length) i p1 z h ∙ sym (at-segment ps (s ⊗ last .length) i g) ∙ sym (at-length ps s n last e l)
+module _ (ps : List Point) (d : Float) (n : ℕ) (e : length ps ≡ n) (p1 : Point) (h : p1 ≡ pointIn ps (n - 1)) where
+  pub only-point : n ≡ 1 → pointPos p1 ≡ prolonged ps d
+  unfolding prolonged endsShort
+  only-point z = simp (e, eq-eqb n 1 z, ← h)
 
-  pub position-line : (p0 : Point) → p0 ≡ pointIn ps (i - 1) → (i ≡ 0 → ⊥) → between p0 p1 (s ⊗ last .length) ≡ positionAt ps s
-  position-line p0 f z =
-      at-line ps (s ⊗ last .length) i p0 p1 z h f ∙ sym (at-segment ps (s ⊗ last .length) i g) ∙ sym (at-length ps s n last e l)
+  module _ (z : n ≡ 1 → ⊥) (p0 : Point) (f : p0 ≡ pointIn ps (n - 2)) where
+    pub too-near : Ieee.lt (p1 .length ⊖ p0 .length) leastApart ≡ true → pointPos p1 ≡ prolonged ps d
+    unfolding prolonged endsShort
+    too-near t = simp (e, ne-eqb n 1 z, ← h, ← f, t)
+
+    pub last-line : Ieee.lt (p1 .length ⊖ p0 .length) leastApart ≡ false → between p0 p1 d ≡ prolonged ps d
+    unfolding prolonged endsShort
+    last-line t = simp (e, ne-eqb n 1 z, ← h, ← f, t)
+
+-- ---- at a progress
+
+module _ (ps : List Point) (stated s : Float) (n : ℕ) (e : length ps ≡ n) (last : Point) (h : last ≡ pointIn ps (n - 1))
+    (whole : Float) (w : whole ≡ wholeLength stated (last .length)) where
+  pub position-drawn : Ieee.le (s ⊗ whole) (last .length) ≡ true → lookupAt ps (s ⊗ whole) (segmentOf ps (s ⊗ whole)) ≡ positionAt ps stated s
+  unfolding positionAt lookup
+  position-drawn t = simp (e, ← h, ← w, t)
+
+  pub position-beyond : Ieee.le (s ⊗ whole) (last .length) ≡ false → prolonged ps (s ⊗ whole) ≡ positionAt ps stated s
+  unfolding positionAt lookup
+  position-beyond t = simp (e, ← h, ← w, t)

@@ -40,6 +40,7 @@ osuObject f = record {
   «start_time» = f .start;
   «stack_offset» = record { x = f .«stack_x»; y = f .«stack_y» };
   kind = kindOf f;
+  length = f .length;
 }
 
 unfoldable pub runsOf : Fields → Runs

@@ -1,12 +1,12 @@
--- Document 01, "Positions, paths, numbers": lookup on a path at a progress.
+-- Document 01, "Positions, paths, numbers", and document 02, order 4: lookup on a path at a progress.
 use Prim.Native.Nat.{ℕ, _-_}
-use mathlib.Core.Bool.{Bool, cond}
+use mathlib.Core.Bool.{Bool, cond, _||_}
 use mathlib.Core.List.{List}
 use lib.Dec.{eqb}
 use lib.ListN.{length}
 use lib.Ieee as Ieee
 use lib.Ieee.{Float, binary32}
-use Rattle.num_floats.specs.Numbers.{_⊖_, _⊗_, _⊘_}
+use Rattle.num_floats.specs.Numbers.{_⊖_, _⊗_, _⊘_, f64, zero64}
 use Rattle.num_whole.specs.Narrow.{narrow}
 use Rattle.chart_fields.specs.Search.{firstBelow}
 use Rattle.chart_entries.specs.declared.Point.{Point}
@@ -32,9 +32,31 @@ between a b d = pointPos a +ₚ (pointPos b -ₚ pointPos a) *ₚ narrow binary3
 unfoldable pub lookupAt : List Point → Float → ℕ → Pos
 lookupAt ps d i = cond (eqb i 0) (pointPos (pointIn ps i)) (between (pointIn ps (i - 1)) (pointIn ps i) d)
 
-unfoldable pub lookup : List Point → Float → Pos
-lookup ps d = lookupAt ps d (segmentOf ps d)
+-- ---- Order 4
 
--- "d = s × last length"
-unfoldable pub positionAt : List Point → Float → Pos
-positionAt ps s = lookup ps (s ⊗ pointIn ps (length ps - 1) .length)
+abbrev pub lastPoint : List Point → Point
+lastPoint ps = pointIn ps (length ps - 1)
+
+-- 0.001
+abbrev pub leastApart : Float
+leastApart = f64 0x3F50624DD2F1A9FC
+
+-- "there is one point only or the last two lengths are less than 0.001 apart", the difference rounded once
+unfoldable pub endsShort : List Point → Bool
+endsShort ps = eqb (length ps) 1 || Ieee.lt (lastPoint ps .length ⊖ pointIn ps (length ps - 2) .length) leastApart
+
+-- "beyond the drawn end it prolongs the last segment by the same formula, or stays on the last point"
+unfoldable pub prolonged : List Point → Float → Pos
+prolonged ps d = cond (endsShort ps) (pointPos (lastPoint ps)) (between (pointIn ps (length ps - 2)) (lastPoint ps) d)
+
+-- at the length d, which lies beyond the drawn end where not even the last point's length reaches it
+unfoldable pub lookup : List Point → Float → Pos
+lookup ps d = cond (reaches ps d (length ps - 1)) (lookupAt ps d (segmentOf ps d)) (prolonged ps d)
+
+-- "uses the stated length in place of the last one"; "0 for a slider keeps the drawn length"
+unfoldable pub wholeLength : Float → Float → Float
+wholeLength stated drawn = cond (Ieee.eq stated zero64) drawn stated
+
+-- "d = s × last length", or × the stated one
+unfoldable pub positionAt : List Point → Float → Float → Pos
+positionAt ps stated s = lookup ps (s ⊗ wholeLength stated (lastPoint ps .length))

@@ -7,12 +7,15 @@ ghost use Rattle.chart_fields.specs.Objects.{Holds};
 ghost use Rattle.osu_object.specs.Osu.{kindOf, osuObject, runsOf, objectOf, stackedPos, isSlider, isSpinner};
 ghost use Rattle.osu_object.specs.Osu.{Slides, Ready, nestedList, pointList, nestedIn, pointIn, isRepeat, repeatCount, tailOf, endPos, stackedEndPos};
 ghost use Rattle.osu_object.specs.Base.{baseOf, endOf, repeatsOf};
-ghost use Rattle.osu_object.specs.Path.{reaches, segmentOf, between, positionAt};
+ghost use Rattle.osu_object.specs.Path.{pointPos, reaches, segmentOf, between, lookupAt, prolonged, wholeLength, positionAt};
 use chart_entries::Nested;
 use chart_entries::Point;
 use chart_fields::Fields;
 use chart_fields::Layout;
 use osu_pos::Pos;
+
+// The last two lengths of a path, at least so far apart where its last segment is prolonged.
+const LEAST_APART: f64 = 0.001;
 
 // A slider's kind carries its end time and span count.
 pub enum OsuObjectKind {
@@ -21,12 +24,13 @@ pub enum OsuObjectKind {
     Slider(f64, f64),
 }
 
-// An object without its entries.
+// An object without its entries. The length is the one that a slider's path is stated to have, 0 for the drawn one.
 pub struct OsuObject {
     pub pos: Pos,
     pub start_time: f64,
     pub stack_offset: Pos,
     pub kind: OsuObjectKind,
+    pub length: f64,
 }
 
 // Where a slider's nested entries and points stand in their tables.
@@ -78,6 +82,7 @@ impl OsuObject {
                 y: f.stack_y,
             },
             kind: kind,
+            length: f.length,
         }
     }
 
@@ -213,6 +218,13 @@ fn segment(chart: &[u8], lay: Layout, r: Runs, d: f64) -> usize
     i
 }
 
+// The position of a point, relative to the head.
+fn point_pos(p: Point) -> Pos
+    ensures { λ r. ⌜ r ≡ pointPos p ⌝ }
+{
+    Pos { x: p.x, y: p.y }
+}
+
 // The position at length d on the line from a to b.
 fn on_line(a: Point, b: Point, d: f64) -> Pos
     ensures { λ p. ⌜ p ≡ between a b d ⌝ }
@@ -223,20 +235,58 @@ fn on_line(a: Point, b: Point, d: f64) -> Pos
     from.add(to.sub(from).scaled(w))
 }
 
-// The position on the path, relative to the head, at a progress from 0 to 1.
-pub fn position_at(chart: &[u8], lay: Layout, r: Runs, progress: f64) -> Pos
+// The position at length d on the path as it is drawn.
+fn on_path(chart: &[u8], lay: Layout, r: Runs, d: f64) -> Pos
     requires { ⌜ Slides (now chart) lay r ⌝ }
-    ensures { λ p. ⌜ p ≡ positionAt (pointList (now (chart .entry)) lay r) progress ⌝ }
+    ensures { λ p. ⌜ p ≡ lookupAt (pointList (now (chart .entry)) lay r) d (segmentOf (pointList (now (chart .entry)) lay r) d) ⌝ }
 {
-    let last = point(chart, lay, r, r.point_count - 1);
-    let d = progress * last.length;
     let i = segment(chart, lay, r, d);
     let p1 = point(chart, lay, r, i);
     if i == 0 {
-        return Pos { x: p1.x, y: p1.y };
+        return point_pos(p1);
     }
     let p0 = point(chart, lay, r, i - 1);
     on_line(p0, p1, d)
+}
+
+// The position at length d beyond the drawn end: on the last segment prolonged, or on the last point where that segment is none or too short.
+fn beyond(chart: &[u8], lay: Layout, r: Runs, d: f64) -> Pos
+    requires { ⌜ Slides (now chart) lay r ⌝ }
+    ensures { λ p. ⌜ p ≡ prolonged (pointList (now (chart .entry)) lay r) d ⌝ }
+{
+    let count = r.point_count;
+    let p1 = point(chart, lay, r, count - 1);
+    if count == 1 {
+        return point_pos(p1);
+    }
+    let p0 = point(chart, lay, r, count - 2);
+    if p1.length - p0.length < LEAST_APART {
+        return point_pos(p1);
+    }
+    on_line(p0, p1, d)
+}
+
+// The length of the whole path: the stated one, or the drawn one where 0 is stated.
+fn whole_length(stated: f64, drawn: f64) -> f64
+    ensures { λ r. ⌜ r ≡ wholeLength stated drawn ⌝ }
+{
+    if stated == 0.0 {
+        return drawn;
+    }
+    stated
+}
+
+// The position on the path of a stated length, relative to the head, at a progress from 0 to 1.
+pub fn position_at(chart: &[u8], lay: Layout, r: Runs, stated: f64, progress: f64) -> Pos
+    requires { ⌜ Slides (now chart) lay r ⌝ }
+    ensures { λ p. ⌜ p ≡ positionAt (pointList (now (chart .entry)) lay r) stated progress ⌝ }
+{
+    let last = point(chart, lay, r, r.point_count - 1);
+    let d = progress * whole_length(stated, last.length);
+    if d <= last.length {
+        return on_path(chart, lay, r, d);
+    }
+    beyond(chart, lay, r, d)
 }
 
 // What the evaluators read of an object beside its nested entries; the position is stacked.

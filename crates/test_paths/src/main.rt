@@ -1,5 +1,5 @@
-// Looks positions up on paths. Standard input has for each lookup the progress (f64), the number of points (u32, 1 to 64) and the points (f32 x, f32 y,
-// f64 length so far), little-endian. The position is written as bits, x and y.
+// Looks positions up on paths. Standard input has for each lookup the progress (f64), the stated length (f64), the number of points (u32, 1 to 64) and the
+// points (f32 x, f32 y, f64 length so far), little-endian. The position is written as bits, x and y.
 ghost use Prim.Native.Nat.{_+_, _*_, _<_, _≤_};
 ghost use lib.ListN.{length};
 use chart_fields::Layout;
@@ -15,14 +15,14 @@ const MOST_POINTS: usize = 64;
 const POINTS_AT: usize = 104;
 
 // The position on the path of the first points.
-fn position(path: &[u8], count: usize, progress: f64) -> Pos
+fn position(path: &[u8], count: usize, stated: f64, progress: f64) -> Pos
     requires { ⌜ (0 < count) × (count ≤ 64) × (104 + 16 * count ≤ length (now path)) ⌝ }
 {
     let lay = Layout {
         n: 0,
         nested: 1,
         points: count,
-        object_size: 56,
+        object_size: chart_fields::OBJECT_SIZE,
         nested_at: 80,
         points_at: POINTS_AT,
     };
@@ -32,7 +32,7 @@ fn position(path: &[u8], count: usize, progress: f64) -> Pos
         point_first: 0,
         point_count: count,
     };
-    osu_object::position_at(path, lay, run, progress)
+    osu_object::position_at(path, lay, run, stated, progress)
 }
 
 fn show(p: Pos) {
@@ -48,11 +48,11 @@ fn show(p: Pos) {
 fn answer(path: &mut [u8]) -> bool
     requires { ⌜ 1128 ≤ length (now path) ⌝ }
 {
-    let mut head = [0u8; 12];
-    if io::read_full(0, &mut head[..]) < 12 {
+    let mut head = [0u8; 20];
+    if io::read_full(0, &mut head[..]) < 20 {
         return false;
     }
-    let count = num_floats::count_at(&head[..], 8);
+    let count = num_floats::count_at(&head[..], 16);
     if count < 1 {
         return false;
     }
@@ -64,7 +64,8 @@ fn answer(path: &mut [u8]) -> bool
         return false;
     }
     let progress = num_floats::f64_at(&head[..], 0);
-    show(position(path, count, progress));
+    let stated = num_floats::f64_at(&head[..], 8);
+    show(position(path, count, stated, progress));
     true
 }
 

@@ -73,6 +73,9 @@ add-count-at-4 c = search needs
 count-at-requires-4 : tie.Need-count-at-requires-4
 count-at-requires-4 c κs = search needs
 
+stated-length-requires : tie.Need-stated-length-requires
+stated-length-requires c κs = search needs
+
 returns : tie.Need-returns
 unfolding fieldsAt
 returns c = cc
@@ -104,4 +107,5 @@ fields-at-spec =
     count-at-requires-3
     add-count-at-4
     count-at-requires-4
+    stated-length-requires
     returns)

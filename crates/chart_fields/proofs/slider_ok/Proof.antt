@@ -18,9 +18,9 @@ count-ok-requires-3 c κs = search needs
 returns : tie.Need-returns
 returns c =
     simp (
-      c .before .before .count-ok .ensures,
-      c .before .count-ok2 .ensures,
-      c .count-ok3 .ensures,
+      c .before .before .before .before .count-ok .ensures,
+      c .before .before .before .count-ok2 .ensures,
+      c .before .before .count-ok3 .ensures,
     )
 
 pub slider-ok-spec : {M : Type 1} → statement M

@@ -35,7 +35,12 @@ settings-at-requires : tie.Need-settings-at-requires
 settings-at-requires c κs = parts _ (header-ok _ (c .before .before .before .before .before .before .before .before .before .pre)) .long
 
 fields-at-requires : tie.Need-fields-at-requires
-fields-at-requires c κs = omega (arith, c .before .if3 .left, ap (λ (l : Layout). l .«object_size») (c .before .before .before .before .before .before .before .layout-of .ensures), holds _ (header-ok _ (c .before .before .before .before .before .before .before .before .before .before .pre)) .size-least)
+fields-at-requires c κs =
+    let size = holds _ (header-ok _ (c .before .before .before .before .before .before .before .before .before .before .pre)) .size-least in
+    let same = ap (λ (l : Layout). l .«object_size») (c .before .before .before .before .before .before .before .layout-of .ensures) in (
+      omega (arith, same, size),
+      omega (arith, c .before .if3 .left),
+    )
 
 long-with-requires : tie.Need-long-with-requires
 long-with-requires c κs = (rw (c .before .before .before .before .before .before .before .before .layout-of .ensures) (holds _ (header-ok _ (c .before .before .before .before .before .before .before .before .before .before .before .pre))), c .before .before .before .before .before .before .if1 .left)
@@ -44,7 +49,7 @@ check-object-requires : tie.Need-check-object-requires
 check-object-requires c κs = (rw (c .before .before .before .before .before .before .before .before .before .layout-of .ensures) (holds _ (header-ok _ (c .before .before .before .before .before .before .before .before .before .before .before .before .pre))), c .before .before .before .before .before .before .before .if1 .left)
 
 returns-4 : tie.Need-returns-4
-returns-4 c = c .check-object .ensures ∙ rw (c .before .long-with .ensures, c .before .before .before .before .before .before .before .before .before .before .layout-of .ensures, c .before .before .before .settings-at .ensures, c .before .before .fields-at .ensures) (at-insert _ _ _ (c .before .before .before .before .before .before .before .before .before .before .before .before .before .pre) (rw (c .before .before .before .before .before .before .before .before .before .before .layout-of .ensures) at (c .before .before .before .before .before .before .before .before .if1 .left)) (sym (c .before .before .before .before .before .before .before .no-room .ensures) ∙ c .before .before .before .before .before .before .if2 .left) (rw (c .before .before .before .before .before .before .before .before .before .before .layout-of .ensures) at (c .before .before .before .before .if3 .left)))
+returns-4 c = c .check-object .ensures ∙ rw (c .before .long-with .ensures, c .before .before .fields-at .ensures, c .before .before .before .before .before .before .before .before .before .before .layout-of .ensures, c .before .before .before .settings-at .ensures) (at-insert _ _ _ (c .before .before .before .before .before .before .before .before .before .before .before .before .before .pre) (rw (c .before .before .before .before .before .before .before .before .before .before .layout-of .ensures) at (c .before .before .before .before .before .before .before .before .if1 .left)) (sym (c .before .before .before .before .before .before .before .no-room .ensures) ∙ c .before .before .before .before .before .before .if2 .left) (rw (c .before .before .before .before .before .before .before .before .before .before .layout-of .ensures) at (c .before .before .before .before .if3 .left)))
 
 pub check-insert-at-spec : {M : Type 1} → statement M
 check-insert-at-spec =

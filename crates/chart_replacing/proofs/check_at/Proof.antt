@@ -34,7 +34,11 @@ settings-at-requires c κs = parts _ (header-ok _ (c .before .before .before .be
 
 fields-at-requires : tie.Need-fields-at-requires
 fields-at-requires c κs =
-    omega (arith, c .before .if2 .left, ap (λ (l : Layout). l .«object_size») (c .before .before .before .before .before .layout-of .ensures), holds _ (header-ok _ (c .before .before .before .before .before .before .before .before .pre)) .size-least)
+    let size = holds _ (header-ok _ (c .before .before .before .before .before .before .before .before .pre)) .size-least in
+    let same = ap (λ (l : Layout). l .«object_size») (c .before .before .before .before .before .layout-of .ensures) in (
+      omega (arith, same, size),
+      omega (arith, c .before .if2 .left),
+    )
 
 check-new-requires : tie.Need-check-new-requires
 check-new-requires c κs = (rw (c .before .before .before .before .before .before .layout-of .ensures) (holds _ (header-ok _ (c .before .before .before .before .before .before .before .before .before .pre))), c .before .before .before .before .if1 .left)
@@ -42,7 +46,7 @@ check-new-requires c κs = (rw (c .before .before .before .before .before .befor
 returns-3 : tie.Need-returns-3
 returns-3 c =
     c .check-new .ensures
-    ∙ rw (c .before .before .before .before .before .before .before .layout-of .ensures, c .before .before .settings-at .ensures, c .before .fields-at .ensures)
+    ∙ rw (c .before .fields-at .ensures, c .before .before .before .before .before .before .before .layout-of .ensures, c .before .before .settings-at .ensures)
     (at-place _ _ _ (c .before .before .before .before .before .before .before .before .before .before .pre) (rw (c .before .before .before .before .before .before .before .layout-of .ensures) at (c .before .before .before .before .before .if1 .left)) (rw (c .before .before .before .before .before .before .before .layout-of .ensures) at (c .before .before .before .if2 .left)))
 
 pub check-at-spec : {M : Type 1} → statement M
