@@ -10,7 +10,7 @@ use Rattle.chart_opening.specs.Header.{layoutOf, headerOk}
 use Rattle.chart_opening.specs.Conditions.{refusalPlace, firstOf, chartConditions, openConditions, openVerdict, Opens}
 use Rattle.chart_opening.specs.Accepted.{first-refused, header-ok}
 use Rattle.chart_opening.specs.declared.Refusal.{Refusal}
-use Rattle.chart_opening.specs.declared.Refusal.the-variants.{Header, Setting, Object, Entries, Order, Length, Table, Place, Room}
+use Rattle.chart_opening.specs.declared.Refusal.the-variants.{Header, Setting, Object, Entries, Order, Length, Table, Place, Room, NotFinite}
 use Rattle.chart_opening.specs.declared.Verdict.{Verdict}
 use Rattle.chart_opening.specs.declared.Verdict.the-variants.{Accepted, Refused}
 use Rattle.chart_opening.proofs.Header.{holds}
@@ -39,6 +39,7 @@ placed-limit b Length h l = omega arith
 placed-limit b Table h l = omega arith
 placed-limit b Place h l = omega arith
 placed-limit b Room h l = omega arith
+placed-limit b NotFinite h l = omega arith
 
 -- where condition 1 is met, that is the refusal
 header-first : (b : List ℕ) → headerOk b ≡ false → firstOf (chartConditions b) ≡ Refused Header

@@ -28,11 +28,13 @@ use Rattle.eval_rhythm.proofs.Laws.{rhythm-same, comparisons-same}
 use Rattle.eval_values.specs.Values.{reachOf, valuesOf}
 use Rattle.eval_values.specs.Laws.{values-width}
 use Rattle.eval_values.proofs.Local.{values-local}
+use Rattle.skills.specs.declared.Skills.{Skills}
 use Rattle.skills.specs.Strains.{strains}
+use Rattle.star_rating.specs.Stars.{ratingsOf}
 use Rattle.skills.specs.Chart.{startAt, deltaAt}
 use Rattle.skills.proofs.Local.{strains-local, total-local}
 use Rattle.calls.specs.Tables.{recordWidth, valueWidth}
-use Rattle.calls.specs.Afresh.{Record, count, object, freshRecord, freshRow, freshValues, freshStrains, valuesFrom, strainsFrom, Detail, aimParts, rhythm, aimIs, rhythmIs, detailOf, freshDetail, detailFrom, Figure, totals, totalsAre, totalsOf, figureOf, freshFigure, figureFrom}
+use Rattle.calls.specs.Afresh.{Record, count, object, freshRecord, freshRow, freshValues, freshStrains, valuesFrom, strainsFrom, Detail, aimParts, rhythm, aimIs, rhythmIs, detailOf, freshDetail, detailFrom, Figure, totals, ratings, totalsAre, ratingsAre, totalsOf, figureOf, freshFigure, figureFrom}
 use Rattle.calls.specs.Calls.{State, state, openRecords, openValues, openStart, openMade, editRecords, editValues, recordsStart, recordsMade, valuesStart, valuesMade}
 use Rattle.calls.specs.Statement.{Fresh, Outside, valueFound, FrameAfresh}
 use Rattle.calls.proofs.Replacing.{count-same, settings-same, object-same}
@@ -188,6 +190,7 @@ totals-local s b vs vs' h =
 pub figure-local : (f : Figure) (s : Settings) (b : List ℕ) (vs vs' : ℕ → List Float) → ((i : ℕ) → 1 ≤ i → i < count b → vs i ≡ vs' i) → figureOf f s b vs ≡ figureOf f s b vs'
 unfolding figureOf
 figure-local totals s b vs vs' h = ap totalsAre (totals-local s b vs vs' h)
+figure-local (ratings asked) s b vs vs' h = ap (λ (t : Skills). ratingsAre (ratingsOf t (count b) asked)) (totals-local s b vs vs' h)
 
 pub figure-from : (f : Figure) (s : Settings) (st : State) → Fresh s st → figureFrom f s (st .chart) (st .values) ≡ freshFigure f s (st .chart)
 figure-from f s st h = figure-local f s (st .chart) (row valueWidth (st .values)) (freshValues s (st .chart)) (h .values)

@@ -16,13 +16,14 @@ use Rattle.chart_opening.specs.Header.{layoutOf, headerOk, settingsOf, settings
 use Rattle.chart_opening.specs.Conditions.{Opens, refusalNumber, refusalPlace, refuseIf, refuseAt, firstOf, bodyConditions, bodyOf, chartConditions, tooFew, openConditions, openVerdict}
 use Rattle.chart_opening.specs.Accepted.{first-accepts, first-refused, first-passed, refuses}
 use Rattle.chart_opening.specs.declared.Refusal.{Refusal}
-use Rattle.chart_opening.specs.declared.Refusal.the-variants.{Header, Setting, Object, Entries, Order, Length, Table, Place, Room}
+use Rattle.chart_opening.specs.declared.Refusal.the-variants.{Header, Setting, Object, Entries, Order, Length, Table, Place, Room, NotFinite}
 use Rattle.chart_opening.specs.declared.Verdict.{Verdict}
 use Rattle.chart_opening.specs.declared.Verdict.the-variants.{Accepted, Refused}
 use Rattle.chart_replacing.specs.Replace.{putObject, placeConditions, replaceConditions, replaceVerdict}
 use Rattle.chart_inserting.specs.Insert.{insertObject, removeObject, noRoom, insertPlaceConditions, insertConditions, removePlaceConditions, removeConditions}
+use Rattle.star_rating.specs.Stars.{finiteAsked}
 use Rattle.calls.specs.Tables.{entriesOf}
-use Rattle.calls.specs.Afresh.{Detail, Figure, totals, count}
+use Rattle.calls.specs.Afresh.{Detail, Figure, totals, ratings, count}
 use Rattle.calls.specs.Conditions.{Lengths, scratchShort, replace, insert, remove, readRecord, readValues, readDetail, figure, readConditions, readVerdict, sumConditions, askedConditions, figureConditions, opening, refusal}
 use Rattle.calls.specs.Statement.{Lowest, Placed, ReplacePlaced, of-chart, of-place, of-length, of-result, InsertPlaced, insert-of-chart, insert-of-place, insert-of-room, insert-of-length, insert-of-result, RemovePlaced, remove-of-chart, remove-of-place, remove-of-result}
 
@@ -103,6 +104,7 @@ opening-placed r v b = open-placed b (entriesOf r v)
 asked-placed : (f : Figure) (b : List ℕ) → Each (Placed b) (askedConditions f (count b))
 unfolding askedConditions
 asked-placed totals b = tt
+asked-placed (ratings asked) b = (each-if (Placed b) (not (finiteAsked asked)) NotFinite tt, tt)
 
 pub figure-placed : (f : Figure) (l : Lengths) (r v : ℕ) (b : List ℕ) (q : Refusal) → refusal (figure f l) r v b ≡ Refused q → Placed b q
 unfolding refusal figureConditions sumConditions
@@ -216,7 +218,7 @@ module _ (k r v : ℕ) (b : List ℕ) (q : Refusal) where
 
 named : ℕ → ℕ → Refusal
 named n p =
-    cond (eqb n 1) Header (cond (eqb n 2) Setting (cond (eqb n 3) (Object p) (cond (eqb n 4) (Entries p) (cond (eqb n 5) (Order p) (cond (eqb n 6) Length (cond (eqb n 7) Table (cond (eqb n 8) Place Room)))))))
+    cond (eqb n 1) Header (cond (eqb n 2) Setting (cond (eqb n 3) (Object p) (cond (eqb n 4) (Entries p) (cond (eqb n 5) (Order p) (cond (eqb n 6) Length (cond (eqb n 7) Table (cond (eqb n 8) Place (cond (eqb n 9) Room NotFinite))))))))
 
 named-by : (q : Refusal) → named (refusalNumber q) (refusalPlace q) ≡ q
 unfolding named
@@ -229,6 +231,7 @@ named-by Length = refl
 named-by Table = refl
 named-by Place = refl
 named-by Room = refl
+named-by NotFinite = refl
 
 pub refusal-told : (q q' : Refusal) → refusalNumber q ≡ refusalNumber q' → refusalPlace q ≡ refusalPlace q' → q ≡ q'
 refusal-told q q' e f = sym (named-by q) ∙ ((λ i. named (e i) (f i)) ∙ named-by q')

@@ -19,6 +19,9 @@ use Rattle.eval_values.specs.Values.{reachOf, valuesOf, valuesIn}
 use Rattle.skills.specs.declared.Skills.{Skills}
 use Rattle.skills.specs.Strains.{strains, total}
 use Rattle.skills.specs.Chart.{startAt, deltaAt}
+use Rattle.star_rating.specs.Stars.{ratingsOf}
+use Rattle.star_rating.specs.declared.Asked.{Asked}
+use Rattle.star_rating.specs.declared.Ratings.{Ratings}
 use Rattle.calls.specs.Tables.{valueWidth}
 
 -- document 01's object record
@@ -87,10 +90,13 @@ detailFrom d s b rs j = detailOf d s b (Rows.recordAt rs) j
 
 pub data Figure : Type 0 where
   totals : Figure
+  -- with the mods and numbers that come with the call
+  ratings : Asked → Figure
 
 -- what a figure comes to
 pub data Amount : Type 0 where
   totalsAre : Skills → Amount
+  ratingsAre : Ratings → Amount
 
 -- skills/*.rs, from the values by place; times come from the chart
 unfoldable pub totalsOf : Settings → List ℕ → (ℕ → List Float) → Skills
@@ -98,6 +104,7 @@ totalsOf s b values = total (startAt b (layoutOf b) (s .«clock_rate»)) (deltaA
 
 unfoldable pub figureOf : Figure → Settings → List ℕ → (ℕ → List Float) → Amount
 figureOf totals s b values = totalsAre (totalsOf s b values)
+figureOf (ratings asked) s b values = ratingsAre (ratingsOf (totalsOf s b values) (count b) asked)
 
 abbrev pub freshFigure : Figure → Settings → List ℕ → Amount
 freshFigure f s b = figureOf f s b (freshValues s b)

@@ -7,12 +7,13 @@ use lib.Ieee.{Float}
 use lib.ListN.{length}
 use Rattle.chart_opening.specs.Header.{layoutOf, headerOk}
 use Rattle.chart_opening.specs.Conditions.{refuseIf, firstOf, chartConditions, tooFew, openVerdict}
-use Rattle.chart_opening.specs.declared.Refusal.the-variants.{Header, Table, Place}
+use Rattle.chart_opening.specs.declared.Refusal.the-variants.{Header, Table, Place, NotFinite}
 use Rattle.chart_opening.specs.declared.Verdict.{Verdict}
 use Rattle.chart_replacing.specs.Replace.{replaceVerdict}
 use Rattle.chart_inserting.specs.Insert.{insertVerdict, removeVerdict}
 use Rattle.calls.specs.Tables.{leastScratch, recordEntries, valueEntries, entriesOf}
-use Rattle.calls.specs.Afresh.{Detail, Figure, totals}
+use Rattle.star_rating.specs.Stars.{finiteAsked}
+use Rattle.calls.specs.Afresh.{Detail, Figure, totals, ratings}
 
 -- the four slices of scratch that a figure is lent, one for each skill; and their lengths
 pub record Scratch : Type 0 where
@@ -65,6 +66,7 @@ sumVerdict b entries short = firstOf (sumConditions b entries short)
 -- what a figure tries behind them, of what comes with it, for a chart of n objects
 unfoldable pub askedConditions : Figure → ℕ → List Verdict
 askedConditions totals n = []
+askedConditions (ratings asked) n = refuseIf (not (finiteAsked asked)) NotFinite ∷ []
 
 unfoldable pub figureConditions : Figure → List ℕ → ℕ → Bool → List Verdict
 figureConditions f b entries short = sumConditions b entries short ++ askedConditions f (layoutOf b .n)

@@ -18,7 +18,7 @@ use Rattle.chart_opening.specs.Header.{layoutOf, settingsOf, chartLength}
 use Rattle.chart_opening.specs.Conditions.{Opens, firstOf, chartConditions, tooFew, refusalNumber, refusalPlace}
 use Rattle.chart_opening.specs.declared.Settings.{Settings}
 use Rattle.chart_opening.specs.declared.Refusal.{Refusal}
-use Rattle.chart_opening.specs.declared.Refusal.the-variants.{Header, Setting, Object, Entries, Order, Length, Table, Place, Room}
+use Rattle.chart_opening.specs.declared.Refusal.the-variants.{Header, Setting, Object, Entries, Order, Length, Table, Place, Room, NotFinite}
 use Rattle.chart_opening.specs.declared.Verdict.the-variants.{Accepted, Refused}
 use Rattle.chart_replacing.specs.Replace.{objectBytes, putObject}
 use Rattle.chart_inserting.specs.Insert.{insertObject, removeObject, noRoom}
@@ -265,6 +265,7 @@ Placed b Length = Unit {0}
 Placed b Table = Unit {0}
 Placed b Place = Unit {0}
 Placed b Room = Unit {0}
+Placed b NotFinite = Unit {0}
 
 -- of a replacement: of the chart as it is lent; else no such place; else an object of another length, at its place; else of the chart as it would become
 pub data ReplacePlaced (k : ℕ) (o : List ℕ) (r v : ℕ) (b : List ℕ) (q : Refusal) : Type 0 where

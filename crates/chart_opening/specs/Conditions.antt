@@ -11,7 +11,7 @@ use Rattle.chart_fields.specs.declared.Layout.{Layout}
 use Rattle.chart_entries.specs.Entries.{badEntries}
 use Rattle.chart_opening.specs.Header.{layoutOf, headerOk, settingsOf, settingsOk, tooLong}
 use Rattle.chart_opening.specs.declared.Refusal.{Refusal}
-use Rattle.chart_opening.specs.declared.Refusal.the-variants.{Header, Setting, Object, Entries, Order, Length, Table, Place, Room}
+use Rattle.chart_opening.specs.declared.Refusal.the-variants.{Header, Setting, Object, Entries, Order, Length, Table, Place, Room, NotFinite}
 use Rattle.chart_opening.specs.declared.Verdict.{Verdict}
 use Rattle.chart_opening.specs.declared.Verdict.the-variants.{Accepted, Refused}
 
@@ -26,6 +26,7 @@ refusalNumber Length = 6
 refusalNumber Table = 7
 refusalNumber Place = 8
 refusalNumber Room = 9
+refusalNumber NotFinite = 10
 
 -- "3, 4 and 5 also return the lowest offending place, others 0"
 abbrev pub refusalPlace : Refusal → ℕ
@@ -38,6 +39,7 @@ refusalPlace Length = 0
 refusalPlace Table = 0
 refusalPlace Place = 0
 refusalPlace Room = 0
+refusalPlace NotFinite = 0
 
 -- ---- A list of conditions
 

@@ -22,7 +22,7 @@ pub struct Settings {
     pub autopilot: bool,
 }
 
-// Why a call is refused: the nine conditions, with the offending place where they have one.
+// Why a call is refused: the ten conditions, with the offending place where they have one.
 pub enum Refusal {
     Header,
     Setting,
@@ -33,6 +33,7 @@ pub enum Refusal {
     Table,
     Place,
     Room,
+    NotFinite,
 }
 
 // What a call that can be refused answers.
@@ -56,6 +57,7 @@ impl Refusal {
             Refusal::Table => 7,
             Refusal::Place => 8,
             Refusal::Room => 9,
+            Refusal::NotFinite => 10,
         }
     }
 
@@ -73,6 +75,7 @@ impl Refusal {
             Refusal::Table => 0,
             Refusal::Place => 0,
             Refusal::Room => 0,
+            Refusal::NotFinite => 0,
         }
     }
 }

@@ -3,15 +3,17 @@ use mathlib.Core.List.{List}
 use Prim.Native.Nat.{ℕ, _*_, _≤_}
 use lib.Ieee.{Float}
 use lib.ListN.{length}
-use Rattle.chart_fields.specs.Limits.{headerSize}
+use Rattle.chart_fields.specs.Limits.{headerSize, mostObjects}
 use Rattle.chart_fields.specs.Objects.{Holds}
 use Rattle.chart_opening.specs.Header.{layoutOf}
 use Rattle.calls.specs.Tables.{valueWidth, leastScratch}
-use Rattle.calls.specs.Afresh.{totalsAre}
+use Rattle.calls.specs.Afresh.{totalsAre, ratingsAre}
 use Rattle.calls.specs.Conditions.{Scratch, Lengths}
 use Rattle.calls.specs.Calls.{Answer, refused, figureIs}
 use Rattle.figures.specs.declared.TotalsAnswer.{TotalsAnswer}
 use Rattle.figures.specs.declared.TotalsAnswer.the-variants as OfTotals
+use Rattle.figures.specs.declared.RatingsAnswer.{RatingsAnswer}
+use Rattle.figures.specs.declared.RatingsAnswer.the-variants as OfRatings
 
 -- a chart with a value table of v numbers and scratch of these lengths
 pub record Sums (b : List ℕ) (v : ℕ) (l : Lengths) : Type 0 where
@@ -23,6 +25,11 @@ pub record Sums (b : List ℕ) (v : ℕ) (l : Lengths) : Type 0 where
   pub speed : leastScratch ≤ l .speed
   pub flashlight : leastScratch ≤ l .flashlight
 
+-- a chart whose objects are counted
+pub record Counted (b : List ℕ) : Type 0 where
+  pub long : headerSize ≤ length b
+  pub few : layoutOf b .n ≤ mostObjects
+
 -- the four slices of scratch
 abbrev pub scratchOf : List Float → List Float → List Float → List Float → Scratch
 scratchOf aim aimNoSliders speed flashlight = record { aim = aim; aimNoSliders = aimNoSliders; speed = speed; flashlight = flashlight }
@@ -30,3 +37,7 @@ scratchOf aim aimNoSliders speed flashlight = record { aim = aim; aimNoSliders =
 abbrev pub totalsAnswer : TotalsAnswer → Answer
 totalsAnswer (OfTotals.Totals t) = figureIs (totalsAre t)
 totalsAnswer (OfTotals.Refused r) = refused r
+
+abbrev pub ratingsAnswer : RatingsAnswer → Answer
+ratingsAnswer (OfRatings.Ratings x) = figureIs (ratingsAre x)
+ratingsAnswer (OfRatings.Refused r) = refused r

@@ -5,19 +5,28 @@ ghost use mathlib.Core.List.{[]};
 ghost use lib.ListN.{length};
 ghost use Rattle.chart_opening.specs.Header.{layoutOf, settingsOf};
 ghost use Rattle.skills.specs.Chart.{totalsOf};
+ghost use Rattle.star_rating.specs.Stars.{ratingsOf};
 ghost use Rattle.calls.specs.Tables.{valueEntries};
-ghost use Rattle.calls.specs.Afresh as asked;
+ghost use Rattle.calls.specs.Afresh as kinds;
 ghost use Rattle.calls.specs.Conditions as ops;
 ghost use Rattle.calls.specs.Conditions.{lengths, scratchShort, sumVerdict};
 ghost use Rattle.calls.specs.Calls.{state, result, outcome, cleared, scratchAfter};
-ghost use Rattle.figures.specs.Answers.{Sums, scratchOf, totalsAnswer};
+ghost use Rattle.figures.specs.Answers.{Sums, Counted, scratchOf, totalsAnswer, ratingsAnswer};
 use chart_opening::Refusal;
 use chart_opening::Verdict;
 use skills::Skills;
+use star_rating::Asked;
+use star_rating::Ratings;
 
 // The four totals, or why they are not worked out.
 pub enum TotalsAnswer {
     Totals(Skills),
+    Refused(Refusal),
+}
+
+// The ratings and the stars, or why they are not worked out.
+pub enum RatingsAnswer {
+    Ratings(Ratings),
     Refused(Refusal),
 }
 
@@ -102,11 +111,11 @@ pub fn totals(
     flashlight: &mut [f64],
 ) -> TotalsAnswer
     ensures answer { λ r. ⌜ result (totalsAnswer r) (now (chart .exit)) [] (now (values .exit))
-        ≡ outcome (ops.figure asked.totals
+        ≡ outcome (ops.figure kinds.totals
         (lengths (scratchOf (now (aim .entry)) (now («aim_no_sliders» .entry)) (now (speed .entry)) (now (flashlight .entry)))))
         (state (now (chart .entry)) [] (now (values .entry))) ⌝ }
     ensures scratch { λ _. ⌜ scratchOf (now (aim .exit)) (now («aim_no_sliders» .exit)) (now (speed .exit)) (now (flashlight .exit))
-        ≡ scratchAfter asked.totals (state (now (chart .entry)) [] (now (values .entry)))
+        ≡ scratchAfter kinds.totals (state (now (chart .entry)) [] (now (values .entry)))
         (scratchOf (now (aim .entry)) (now («aim_no_sliders» .entry)) (now (speed .entry)) (now (flashlight .entry))) ⌝ }
 {
     match check_lent(
@@ -121,6 +130,52 @@ pub fn totals(
         Verdict::Accepted => {
             let t = totals_of(chart, values, aim, aim_no_sliders, speed, flashlight);
             TotalsAnswer::Totals(t)
+        }
+    }
+}
+
+// The ratings and the stars of a chart's totals.
+fn rate(chart: &[u8], totals: Skills, asked: Asked) -> Ratings
+    requires { ⌜ Counted (now chart) ⌝ }
+    ensures { λ r. ⌜ r ≡ ratingsOf totals (layoutOf (now (chart .entry)) .n) asked ⌝ }
+{
+    let n = chart_opening::layout_of(chart).n;
+    star_rating::eval(totals, n as u32, asked)
+}
+
+// The ratings and the stars under the mods and with the numbers that come with the call, over the values in the table.
+pub fn ratings(
+    chart: &[u8],
+    values: &[f64],
+    asked: Asked,
+    aim: &mut [f64],
+    aim_no_sliders: &mut [f64],
+    speed: &mut [f64],
+    flashlight: &mut [f64],
+) -> RatingsAnswer
+    ensures answer { λ r. ⌜ result (ratingsAnswer r) (now (chart .exit)) [] (now (values .exit))
+        ≡ outcome (ops.figure (kinds.ratings asked)
+        (lengths (scratchOf (now (aim .entry)) (now («aim_no_sliders» .entry)) (now (speed .entry)) (now (flashlight .entry)))))
+        (state (now (chart .entry)) [] (now (values .entry))) ⌝ }
+    ensures scratch { λ _. ⌜ scratchOf (now (aim .exit)) (now («aim_no_sliders» .exit)) (now (speed .exit)) (now (flashlight .exit))
+        ≡ scratchAfter (kinds.ratings asked) (state (now (chart .entry)) [] (now (values .entry)))
+        (scratchOf (now (aim .entry)) (now («aim_no_sliders» .entry)) (now (speed .entry)) (now (flashlight .entry))) ⌝ }
+{
+    match check_lent(
+        chart,
+        values.len(),
+        aim.len(),
+        aim_no_sliders.len(),
+        speed.len(),
+        flashlight.len(),
+    ) {
+        Verdict::Refused(r) => RatingsAnswer::Refused(r),
+        Verdict::Accepted => {
+            if !asked.is_finite() {
+                return RatingsAnswer::Refused(Refusal::NotFinite);
+            }
+            let t = totals_of(chart, values, aim, aim_no_sliders, speed, flashlight);
+            RatingsAnswer::Ratings(rate(chart, t, asked))
         }
     }
 }

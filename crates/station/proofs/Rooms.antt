@@ -12,7 +12,7 @@ use Rattle.num_tables.specs.Parts.{put}
 use Rattle.chart_opening.specs.Conditions.{refusalNumber, ifAccepted, openVerdict}
 use Rattle.chart_opening.specs.Accepted.{refuses}
 use Rattle.chart_opening.specs.declared.Refusal.{Refusal}
-use Rattle.chart_opening.specs.declared.Refusal.the-variants.{Header, Setting, Object, Entries, Order, Length, Table, Place, Room}
+use Rattle.chart_opening.specs.declared.Refusal.the-variants.{Header, Setting, Object, Entries, Order, Length, Table, Place, Room, NotFinite}
 use Rattle.chart_opening.specs.declared.Verdict.{Verdict}
 use Rattle.chart_opening.specs.declared.Verdict.the-variants.{Accepted, Refused}
 use Rattle.chart_opening.specs.Header.{settingsOf}
@@ -26,7 +26,7 @@ use Rattle.calls.specs.Calls.{Answer, refused, recordIs, valuesAre, detailIs, f
 use Rattle.calls.proofs.Refusals.{sum-refused, sum-passed, figure-refused}
 use Rattle.station.specs.Codes.{rhythmWidth, noRoom, readInto, intoVerdict, figureInto, scratchInto}
 
-pub number-small : (r : Refusal) → refusalNumber r ≤ 9
+pub number-small : (r : Refusal) → refusalNumber r ≤ 10
 number-small Header = omega arith
 number-small Setting = omega arith
 number-small (Object i) = omega arith
@@ -36,6 +36,7 @@ number-small Length = omega arith
 number-small Table = omega arith
 number-small Place = omega arith
 number-small Room = omega arith
+number-small NotFinite = omega arith
 
 -- nothing is written
 pub put-none : (l : List Float) → l ≡ put 0 [] l
