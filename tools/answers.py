@@ -80,6 +80,15 @@ def strains(oracle, data):
         yield from lines if refused(lines) else lines + listed[-1:]
 
 
+def playing(oracle, data):
+    """The totals after every number of objects, and those after half of the objects by themselves."""
+    charts = charts_of(data)
+    for b, lines in zip(charts, oracle.asked(["prefix", "--no-limit"], charts)):
+        yield from lines
+        if not refused(lines):
+            yield from oracle.asked(["prefix", str((len(lines) - 2) // 2), "--no-limit"], [b])[0]
+
+
 def listings(oracle, data):
     charts = charts_of(data)
     for b, lines in zip(charts, oracle.asked(["list"], charts)):
@@ -101,7 +110,7 @@ def calls(oracle, data):
         yield from scripts.answers(oracle.second, oracle.program, b, pattern, lines, True)[0]
 
 
-PROGRAMS = {"test_opening": opening, "test_records": records, "test_values": values, "test_outer": values, "test_strains": strains,
+PROGRAMS = {"test_opening": opening, "test_records": records, "test_values": values, "test_outer": values, "test_strains": strains, "test_playing": playing,
             "test_listings": listings, "test_replacing": replacing, "test_foreign": tables, "test_scripts": calls}
 
 

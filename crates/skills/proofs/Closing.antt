@@ -14,7 +14,7 @@ use Rattle.skills.specs.Strains.{sectionLength, room, Walk, closeOne, cl
 use Rattle.skills.specs.Shown.{shown}
 
 module _ (initial : Float → Float) (start : Float) where
-  close-more : (n m : ℕ) (w : Walk) → n ≡ suc m → lt (w .end) start ≡ true → closeTo n initial start w ≡ closeTo m initial start (closeOne initial w)
+  pub close-more : (n m : ℕ) (w : Walk) → n ≡ suc m → lt (w .end) start ≡ true → closeTo n initial start w ≡ closeTo m initial start (closeOne initial w)
   unfolding closeTo
   close-more n m w e t = rw e (simp t)
 

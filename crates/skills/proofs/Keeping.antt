@@ -9,16 +9,17 @@ use lib.ListN.{length, take, drop, getD, set, length-set, drop-of-length-le}
 use lib.Seq.{take-suc-set, drop-set-lt, drop-cons}
 use lib.Ieee.{Float, nan, lt}
 use Rattle.num_floats.specs.Numbers.{zero64}
-use Rattle.num_sort.specs.Sort.{AllPos}
+use Rattle.num_sort.specs.Sort.{AllClear}
+use Rattle.num_sort.specs.Order.{clear-of-pos}
 use Rattle.skills.specs.Value.{positives}
 
-pub all-positives : (xs : List Float) → AllPos (positives xs)
+pub clear-positives : (xs : List Float) → AllClear (positives xs)
 unfolding positives
-all-positives [] = tt
-all-positives (x ∷ xs) = go (all-positives xs) (lt zero64 x) refl
+clear-positives [] = tt
+clear-positives (x ∷ xs) = go (clear-positives xs) (lt zero64 x) refl
   where
-    go : AllPos (positives xs) → (b : Bool) → lt zero64 x ≡ b → AllPos (cond b (x ∷ positives xs) (positives xs))
-    go r true e = (e, r)
+    go : AllClear (positives xs) → (b : Bool) → lt zero64 x ≡ b → AllClear (cond b (x ∷ positives xs) (positives xs))
+    go r true e = (clear-of-pos x e, r)
     go r false e = r
 
 -- the loop's invariant: k of the first i elements are kept

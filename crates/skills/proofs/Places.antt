@@ -24,17 +24,17 @@ use Rattle.skills.specs.Shown.{shown, opened}
 back : (j : ℕ) → suc j - 1 ≡ j
 back j = omega arith
 
-current-at : (deltas : ℕ → Float) (vs : ℕ → List Float) (k : Skill) (j : ℕ) → 1 ≤ j → current deltas vs k j ≡ strainNext k (current deltas vs k (j - 1)) (deltas j) (vs j)
+pub current-at : (deltas : ℕ → Float) (vs : ℕ → List Float) (k : Skill) (j : ℕ) → 1 ≤ j → current deltas vs k j ≡ strainNext k (current deltas vs k (j - 1)) (deltas j) (vs j)
 unfolding current
 current-at deltas vs k zero h = absurd (omega arith)
 current-at deltas vs k (suc j) h = ap (λ (i : ℕ). strainNext k (current deltas vs k i) (deltas (suc j)) (vs (suc j))) (sym (back j))
 
-strain-at : (deltas : ℕ → Float) (vs : ℕ → List Float) (k : Skill) (j : ℕ) → 1 ≤ j → strainAt deltas vs k j ≡ joined k (current deltas vs k j) (vs j)
+pub strain-at : (deltas : ℕ → Float) (vs : ℕ → List Float) (k : Skill) (j : ℕ) → 1 ≤ j → strainAt deltas vs k j ≡ joined k (current deltas vs k j) (vs j)
 unfolding strainAt
 strain-at deltas vs k zero h = absurd (omega arith)
 strain-at deltas vs k (suc j) h = refl
 
-walk-at : (k : Skill) (starts strains : ℕ → Float) (j : ℕ) → 1 ≤ j → walk k starts strains j ≡ join (strains j) (reached k starts strains j (walk k starts strains (j - 1)))
+pub walk-at : (k : Skill) (starts strains : ℕ → Float) (j : ℕ) → 1 ≤ j → walk k starts strains j ≡ join (strains j) (reached k starts strains j (walk k starts strains (j - 1)))
 unfolding walk
 walk-at k starts strains zero h = absurd (omega arith)
 walk-at k starts strains (suc j) h = ap (λ (i : ℕ). join (strains (suc j)) (reached k starts strains (suc j) (walk k starts strains i))) (sym (back j))

@@ -12,7 +12,7 @@ ghost use Rattle.skills.specs.Shown.{shown, opened, closed, joined};
 mod aim;
 mod flashlight;
 mod speed;
-mod strain;
+pub mod strain;
 
 use chart_fields::Layout;
 
@@ -33,17 +33,17 @@ pub struct Skills {
 }
 
 // The sections of the walk: how many are closed, the open one's peak, and its end.
-struct Sections {
-    count: usize,
-    peak: f64,
-    end: f64,
+pub struct Sections {
+    pub count: usize,
+    pub peak: f64,
+    pub end: f64,
 }
 
 // The length of a section, in milliseconds.
-const SECTION_LENGTH: f64 = 400.0;
+pub const SECTION_LENGTH: f64 = 400.0;
 
 // Sections that are closed before the last, at most; a chart that opens stays below it.
-const ROOM: usize = 8191;
+pub const ROOM: usize = 8191;
 
 // The least adjusted delta time, as in the record.
 const MIN_DELTA_TIME: f64 = 25.0;
@@ -111,7 +111,7 @@ fn strain_decay(ms: f64, base: f64) -> f64
 }
 
 // The Rust's `current_strain` at place j, after `current` at the place before.
-fn current_strain(values: &[f64], j: usize, skill: Skill, current: f64, delta: f64) -> f64
+pub fn current_strain(values: &[f64], j: usize, skill: Skill, current: f64, delta: f64) -> f64
     requires { ⌜ 5 * j + 5 ≤ length (now values) ⌝ }
     ensures { λ r. ⌜ r ≡ strains.strainNext skill current delta (row 5 (now (values .entry)) j) ⌝ }
 {
@@ -121,7 +121,7 @@ fn current_strain(values: &[f64], j: usize, skill: Skill, current: f64, delta: f
 }
 
 // The strain at place j, of its decaying strain: speed's times the rhythm, the others' alone.
-fn strain_value_at(values: &[f64], j: usize, skill: Skill, current: f64) -> f64
+pub fn strain_value_at(values: &[f64], j: usize, skill: Skill, current: f64) -> f64
     requires { ⌜ 5 * j + 5 ≤ length (now values) ⌝ }
     ensures { λ r. ⌜ r ≡ strains.joined skill current (row 5 (now (values .entry)) j) ⌝ }
 {
@@ -134,7 +134,7 @@ fn strain_value_at(values: &[f64], j: usize, skill: Skill, current: f64) -> f64
 }
 
 // The strain with which a section starts at `time`, after a place with this start and this strain.
-fn calculate_initial_strain(skill: Skill, strain: f64, start: f64, time: f64) -> f64
+pub fn calculate_initial_strain(skill: Skill, strain: f64, start: f64, time: f64) -> f64
     ensures { λ r. ⌜ r ≡ strains.initialStrain skill strain start time ⌝ }
 {
     strain * strain_decay(time - start, strain_decay_base(skill))
@@ -169,7 +169,7 @@ fn close_sections(
 }
 
 // The sections before place 1, which starts at `start`: the first is open, and its peak starts at 0.
-fn open_first(start: f64) -> Sections
+pub fn open_first(start: f64) -> Sections
     ensures { λ r. ⌜ r ≡ opened start ⌝ }
 {
     Sections {
@@ -191,7 +191,7 @@ fn join(s: Sections, strain: f64) -> Sections
 }
 
 // The start of place j as the chart has it, not divided by the clock rate.
-fn raw_start(chart: &[u8], lay: Layout, j: usize) -> f64
+pub fn raw_start(chart: &[u8], lay: Layout, j: usize) -> f64
     requires { ⌜ Holds (now chart) lay × (j < lay .n) ⌝ }
     ensures { λ r. ⌜ r ≡ fieldsOf (now (chart .entry)) lay j .start ⌝ }
 {
@@ -284,7 +284,7 @@ fn skill_total(
 }
 
 // All numbers become 0.
-fn clear(a: &mut [f64])
+pub fn clear(a: &mut [f64])
     ensures { λ _. ⌜ now (a .exit) ≡ replicate (length (now (a .entry))) zero64 ⌝ }
 {
     let mut i = 0;

@@ -3,7 +3,7 @@ ghost use mathlib.Core.Path.{_≡_};
 ghost use Prim.Native.Nat.{_≤_, _<_};
 ghost use lib.ListN.{length, take};
 ghost use Rattle.num_floats.specs.Numbers.{zero64, one64};
-ghost use Rattle.num_sort.specs.Sort.{AllPos};
+ghost use Rattle.num_sort.specs.Sort.{AllClear};
 ghost use Rattle.skills.specs.Value as value;
 use crate::Skill;
 
@@ -13,7 +13,7 @@ const REDUCED_SECTION_COUNT: usize = 10;
 const REDUCED_STRAIN_BASELINE: f64 = 0.75;
 
 // The weight of a peak by that of the next larger one.
-const DECAY_WEIGHT: f64 = 0.9;
+pub const DECAY_WEIGHT: f64 = 0.9;
 
 // From start to end by an amount, which 1 brings to the end (skills/strain.rs).
 fn lerp(start: f64, end: f64, amount: f64) -> f64
@@ -104,7 +104,7 @@ fn sum(a: &[f64]) -> f64
 
 // The value of peaks above zero. Reducing disturbs only the first few, so the second sort goes by insertion.
 fn value_of_positive(a: &mut [f64], tmp: &mut [f64], count: usize) -> f64
-    requires { ⌜ (AllPos (now a)) × (length (now a) ≤ length (now tmp)) × (count < 65536) ⌝ }
+    requires { ⌜ (AllClear (now a)) × (length (now a) ≤ length (now tmp)) × (count < 65536) ⌝ }
     ensures { λ r. ⌜ r ≡ value.positiveValue count (now (a .entry)) ⌝ }
 {
     num_sort::merge_sort(a, tmp);

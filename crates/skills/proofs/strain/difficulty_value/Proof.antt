@@ -1,5 +1,5 @@
 -- `skills::strain::difficulty_value` meets its contract. Assumes nothing.
-use Rattle.skills.proofs.Keeping.{all-positives}
+use Rattle.skills.proofs.Keeping.{clear-positives}
 use Rattle.skills.specs.Value.{positives, positiveValue, difficultyValue}
 use lib.ListN.{take, length-take}
 use mathlib.Core.Path.{_≡_, ap, _∙_}
@@ -27,7 +27,7 @@ value-of-positive-requires c κs =
     let k = c .before .before .before .before .keep-positive in
     let peaks = c .before .before .before .before .before .before .before .before .args .peaks .now in
     let e : take (k .result - 0) (k .last .0) ≡ positives peaks = rw sub-zero (k .ensures .1) in
-    (rw e (all-positives peaks), omega (arith, length-take (k .result - 0) (k .last .0), k .kept .0, c .before .before .before .before .before .before .before .before .pre .0), c .before .before .before .before .before .before .before .before .pre .1)
+    (rw e (clear-positives peaks), omega (arith, length-take (k .result - 0) (k .last .0), k .kept .0, c .before .before .before .before .before .before .before .before .pre .0), c .before .before .before .before .before .before .before .before .pre .1)
 
 same-length : tie.Need-same-length
 same-length c = search needs

@@ -1,0 +1,12 @@
+pub mod Clear
+pub mod Parts
+pub mod Stops
+pub mod Reductions
+pub mod Summing
+pub mod Placing
+pub mod Inserting
+pub mod Drawing
+pub mod Choosing
+pub mod Topping
+pub mod OpenValue
+pub mod Factors

@@ -1,0 +1,3 @@
+pub mod Peaks
+pub mod Drawing
+pub mod Placed

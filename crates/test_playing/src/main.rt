@@ -1,0 +1,200 @@
+// Lists the totals of charts while they are played. Standard input has for each chart its length (u32, little-endian) and its bytes. Of a chart that is
+// opened the number of objects is printed, for each m from 0 to that number the totals (aim, aim without sliders, speed, flashlight) reached after m objects,
+// and those after half of the objects, worked out by themselves; of any other the refusal. Values come from the chart's own records.
+ghost use Prim.Native.Nat.{_*_, _+_, _≤_};
+ghost use lib.ListN.{length};
+ghost use Rattle.osu_object.specs.Osu.{Ready};
+ghost use Rattle.skills.specs.Chart.{Readable};
+use chart_fields::Layout;
+use chart_opening::Settings;
+use chart_opening::Verdict;
+use skills::Skills;
+
+// Charts that are read at most.
+const MOST: usize = 65536;
+
+// Number j, 0 where there is none.
+fn number_at(list: &[f64], j: usize) -> f64 {
+    if j < list.len() { list[j] } else { 0.0 }
+}
+
+// Entry m of the list.
+fn entry_at(list: &[f64], m: usize) -> Skills
+    requires { ⌜ m ≤ 1024 ⌝ }
+{
+    let at = 4 * m;
+    let aim = number_at(list, at);
+    let aim_no_sliders = number_at(list, at + 1);
+    let speed = number_at(list, at + 2);
+    let flashlight = number_at(list, at + 3);
+    Skills {
+        aim,
+        aim_no_sliders,
+        speed,
+        flashlight,
+    }
+}
+
+// The lines of all entries.
+fn put_entries(out: &mut [u8], at: usize, n: usize, list: &[f64]) -> usize
+    requires { ⌜ n ≤ 1024 ⌝ }
+{
+    let mut end = at;
+    let mut m = 0;
+    while m <= n {
+        end = text::show_if_full(out, end);
+        end = text::put_decimal(out, end, m as u64);
+        end = lines::put_skills(out, end, entry_at(list, m));
+        m += 1;
+    }
+    end
+}
+
+// The number of objects and the lines of all entries.
+fn put_list(
+    out: &mut [u8],
+    chart: &[u8],
+    lay: Layout,
+    clock: f64,
+    values: &[f64],
+    list: &mut [f64],
+    a: &mut [f64],
+    b: &mut [f64],
+    c: &mut [f64],
+    d: &mut [f64],
+) -> usize
+    requires { ⌜ (Readable (now chart) lay (now values)) × (lay .n ≤ 1024) × (4100 ≤ length (now list))
+        × (8192 ≤ length (now a)) × (8192 ≤ length (now b)) × (8192 ≤ length (now c)) × (8192 ≤ length (now d)) ⌝ }
+{
+    skills_playing::totals_while_playing(chart, lay, clock, values, list, a, b, c, d);
+    let count = lines::put_count(out, 0, lay.n);
+    put_entries(out, count, lay.n, list)
+}
+
+// The line of the totals after half of the objects.
+fn put_half(
+    out: &mut [u8],
+    at: usize,
+    chart: &[u8],
+    lay: Layout,
+    clock: f64,
+    values: &[f64],
+    a: &mut [f64],
+    b: &mut [f64],
+    c: &mut [f64],
+    d: &mut [f64],
+) -> usize
+    requires { ⌜ (Readable (now chart) lay (now values)) × (lay .n ≤ 1024)
+        × (8192 ≤ length (now a)) × (8192 ≤ length (now b)) × (8192 ≤ length (now c)) × (8192 ≤ length (now d)) ⌝ }
+{
+    let m = lay.n / 2;
+    let totals = skills_playing::totals_to(chart, lay, clock, values, m, a, b, c, d);
+    let word = text::put_all(out, at, b"prefix ");
+    let place = text::put_decimal(out, word, m as u64);
+    lines::put_skills(out, place, totals)
+}
+
+// All lines of a chart with its values.
+fn put_lines(
+    out: &mut [u8],
+    chart: &[u8],
+    lay: Layout,
+    clock: f64,
+    values: &[f64],
+    list: &mut [f64],
+    a: &mut [f64],
+    b: &mut [f64],
+    c: &mut [f64],
+    d: &mut [f64],
+)
+    requires { ⌜ (Readable (now chart) lay (now values)) × (lay .n ≤ 1024) × (4100 ≤ length (now list))
+        × (8192 ≤ length (now a)) × (8192 ≤ length (now b)) × (8192 ≤ length (now c)) × (8192 ≤ length (now d)) ⌝ }
+{
+    let entries = put_list(out, chart, lay, clock, values, list, a, b, c, d);
+    let end = put_half(out, entries, chart, lay, clock, values, a, b, c, d);
+    text::show(out, end);
+}
+
+// The tables of a chart that is ready to be read.
+fn fill_tables(chart: &[u8], lay: Layout, set: Settings, t: &mut [f64], values: &mut [f64])
+    requires { ⌜ (Ready (now chart) lay) × (16 * lay .n ≤ length (now t)) × (5 * lay .n ≤ length (now values)) ⌝ }
+{
+    osu_records::fill(chart, lay, set, t);
+    eval_values::fill_values(values, t, chart, lay, set, 1, lay.n);
+}
+
+// The lines of one chart.
+fn answer(
+    out: &mut [u8],
+    chart: &[u8],
+    t: &mut [f64],
+    values: &mut [f64],
+    list: &mut [f64],
+    a: &mut [f64],
+    b: &mut [f64],
+    c: &mut [f64],
+    d: &mut [f64],
+)
+    requires { ⌜ (16384 ≤ length (now t)) × (5120 ≤ length (now values)) × (4100 ≤ length (now list))
+        × (8192 ≤ length (now a)) × (8192 ≤ length (now b)) × (8192 ≤ length (now c)) × (8192 ≤ length (now d)) ⌝ }
+{
+    match chart_opening::check(chart, 1024) {
+        Verdict::Refused(r) => lines::show_refusal(out, r),
+        Verdict::Accepted => {
+            let lay = chart_opening::layout_of(chart);
+            let set = chart_opening::settings_at(chart, 32);
+            fill_tables(chart, lay, set, t, values);
+            put_lines(out, chart, lay, set.clock_rate, values, list, a, b, c, d);
+        }
+    }
+}
+
+// Charts to the end of the input.
+fn run(
+    out: &mut [u8],
+    chart: &mut [u8],
+    t: &mut [f64],
+    values: &mut [f64],
+    list: &mut [f64],
+    a: &mut [f64],
+    b: &mut [f64],
+    c: &mut [f64],
+    d: &mut [f64],
+)
+    requires { ⌜ (16384 ≤ length (now t)) × (5120 ≤ length (now values)) × (4100 ≤ length (now list))
+        × (8192 ≤ length (now a)) × (8192 ≤ length (now b)) × (8192 ≤ length (now c)) × (8192 ≤ length (now d)) ⌝ }
+{
+    let mut left = MOST;
+    while 0 < left {
+        let n = text::read_chart(chart);
+        if n <= chart.len() {
+            answer(out, &chart[0..n], t, values, list, a, b, c, d);
+            left -= 1;
+        } else {
+            left = 0;
+        }
+    }
+}
+
+fn main() {
+    let mut out = io::large_buffer();
+    let mut chart = io::large_buffer();
+    let mut t = [0.0f64; 16384];
+    let mut values = [0.0f64; 5120];
+    let mut list = [0.0f64; 4100];
+    let mut a = [0.0f64; 8192];
+    let mut b = [0.0f64; 8192];
+    let mut c = [0.0f64; 8192];
+    let mut d = [0.0f64; 8192];
+    run(
+        &mut out[..],
+        &mut chart[..],
+        &mut t[..],
+        &mut values[..],
+        &mut list[..],
+        &mut a[..],
+        &mut b[..],
+        &mut c[..],
+        &mut d[..],
+    );
+}
