@@ -111,7 +111,7 @@ fn strain_decay(ms: f64, base: f64) -> f64
 }
 
 // The Rust's `current_strain` at place j, after `current` at the place before.
-fn current_strain(values: &[f64], j: usize, skill: Skill, current: f64, delta: f64) -> f64
+pub fn current_strain(values: &[f64], j: usize, skill: Skill, current: f64, delta: f64) -> f64
     requires { ⌜ 5 * j + 5 ≤ length (now values) ⌝ }
     ensures { λ r. ⌜ r ≡ strains.strainNext skill current delta (row 5 (now (values .entry)) j) ⌝ }
 {
@@ -121,7 +121,7 @@ fn current_strain(values: &[f64], j: usize, skill: Skill, current: f64, delta: f
 }
 
 // The strain at place j, of its decaying strain: speed's times the rhythm, the others' alone.
-fn strain_value_at(values: &[f64], j: usize, skill: Skill, current: f64) -> f64
+pub fn strain_value_at(values: &[f64], j: usize, skill: Skill, current: f64) -> f64
     requires { ⌜ 5 * j + 5 ≤ length (now values) ⌝ }
     ensures { λ r. ⌜ r ≡ strains.joined skill current (row 5 (now (values .entry)) j) ⌝ }
 {
@@ -191,7 +191,7 @@ fn join(s: Sections, strain: f64) -> Sections
 }
 
 // The start of place j as the chart has it, not divided by the clock rate.
-fn raw_start(chart: &[u8], lay: Layout, j: usize) -> f64
+pub fn raw_start(chart: &[u8], lay: Layout, j: usize) -> f64
     requires { ⌜ Holds (now chart) lay × (j < lay .n) ⌝ }
     ensures { λ r. ⌜ r ≡ fieldsOf (now (chart .entry)) lay j .start ⌝ }
 {
