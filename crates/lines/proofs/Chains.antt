@@ -34,3 +34,14 @@ pub numbers-six : {out out' : List ℕ} {at end : ℕ} (a b c d e f : Float)
     → Puts (numberText a ++ numberText b ++ numberText c ++ numberText d ++ numberText e ++ numberText f) out at out' end
     → Puts (numbersText (a ∷ b ∷ c ∷ d ∷ e ∷ f ∷ [])) out at out' end
 numbers-six a b c d e f p = same-text (six a b c d e f) p
+
+seven : (s : List ℕ) (a b c d e f g : Float)
+    → s ++ numberText a ++ numberText b ++ numberText c ++ numberText d ++ numberText e ++ numberText f ++ numberText g
+    ≡ s ++ numbersText (a ∷ b ∷ c ∷ d ∷ e ∷ f ∷ g ∷ [])
+unfolding numbersText
+seven s a b c d e f g = simp (append-assoc, append-nil)
+
+pub numbers-seven : {out out' : List ℕ} {at end : ℕ} (s : List ℕ) (a b c d e f g : Float)
+    → Puts (s ++ numberText a ++ numberText b ++ numberText c ++ numberText d ++ numberText e ++ numberText f ++ numberText g) out at out' end
+    → Puts (s ++ numbersText (a ∷ b ∷ c ∷ d ∷ e ∷ f ∷ g ∷ [])) out at out' end
+numbers-seven s a b c d e f g p = same-text (seven s a b c d e f g) p

@@ -7,7 +7,8 @@ use lib.Ieee.{Float}
 use lib.ListN.{length, length-append}
 use Rattle.text.specs.Lengths.{decimal-length, f64-length}
 use Rattle.skills.specs.declared.Skills.{Skills}
-use Rattle.lines.specs.Lines.{numberText, numbersText, refusalText, countText, placeText, skillsText, totalsText}
+use Rattle.skills_counts.specs.declared.ObjectCounts.{ObjectCounts}
+use Rattle.lines.specs.Lines.{numberText, numbersText, refusalText, countText, placeText, skillsText, totalsText, countNumbers, countsText}
 
 number-length : (x : Float) → length (numberText x) ≡ 17
 unfolding numberText
@@ -34,3 +35,7 @@ pub totals-length : (t : Skills) → length (totalsText t) ≡ 75
 unfolding totalsText skillsText
 totals-length t =
     simp (length-append, numbers-length (t .aim ∷ t .«aim_no_sliders» ∷ t .speed ∷ t .flashlight ∷ [])) (omega arith)
+
+pub counts-length : (c : ObjectCounts) → length (countsText c) ≡ 126
+unfolding countsText countNumbers
+counts-length c = simp (length-append, numbers-length (countNumbers c)) (omega arith)

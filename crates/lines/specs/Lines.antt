@@ -5,6 +5,7 @@ use mathlib.Core.List.{List, [], _∷_, _++_}
 use lib.Ieee.{Float}
 use Rattle.text.specs.Text.{ascii, decimalText, f64Text, f32Text}
 use Rattle.skills.specs.declared.Skills.{Skills}
+use Rattle.skills_counts.specs.declared.ObjectCounts.{ObjectCounts}
 use Rattle.osu_difficulty_object.specs.declared.OsuDifficultyObject.{OsuDifficultyObject}
 
 -- a space and the bits of a number
@@ -34,6 +35,23 @@ skillsText t = numbersText (t .aim ∷ t .«aim_no_sliders» ∷ t .speed ∷ t 
 -- "a line that begins with the word totals"
 unfoldable pub totalsText : Skills → List ℕ
 totalsText t = ascii "totals" ++ skillsText t
+
+-- the counts in the order of their line
+unfoldable pub countNumbers : ObjectCounts → List Float
+countNumbers c =
+    c .«aim_difficult_strain_count»
+    ∷ c .«aim_no_sliders_difficult_strain_count»
+    ∷ c .«speed_difficult_strain_count»
+    ∷ c .«aim_no_sliders_top_weighted_slider_count»
+    ∷ c .«speed_top_weighted_slider_count»
+    ∷ c .«aim_difficult_slider_count»
+    ∷ c .«speed_note_count»
+    ∷ []
+
+-- order 2: "the word counts, then weighted strains for aim, aim without sliders and speed, weighted sliders for aim without sliders and speed, difficult
+-- sliders for aim, and the relevant notes, as float bits"
+unfoldable pub countsText : ObjectCounts → List ℕ
+countsText c = ascii "counts" ++ numbersText (countNumbers c) ++ ascii "\n"
 
 -- ---- The line of a record
 

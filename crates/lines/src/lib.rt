@@ -2,12 +2,13 @@
 ghost use Rattle.text.specs.Buffer.{Puts};
 ghost use Rattle.eval_values.specs.Values.{rowOf};
 ghost use Rattle.chart_opening.specs.Conditions.{refusalNumber, refusalPlace};
-ghost use Rattle.lines.specs.Lines.{numberText, narrowText, flagText, refusalText, countText, placeText, skillsText, totalsText};
+ghost use Rattle.lines.specs.Lines.{numberText, narrowText, flagText, refusalText, countText, placeText, skillsText, totalsText, countsText};
 ghost use Rattle.lines.specs.Lines.{jumpText, travelText, recordText};
 use chart_opening::Refusal;
 use eval_values::Values;
 use osu_difficulty_object::OsuDifficultyObject;
 use skills::Skills;
+use skills_counts::ObjectCounts;
 
 // A space and the bits of a number.
 pub fn put_f64(out: &mut [u8], at: usize, x: f64) -> usize
@@ -84,6 +85,21 @@ pub fn put_totals(out: &mut [u8], at: usize, t: Skills) -> usize
 {
     let word = text::put_all(out, at, b"totals");
     put_skills(out, word, t)
+}
+
+// The word counts and the seven of them.
+pub fn put_counts(out: &mut [u8], at: usize, c: ObjectCounts) -> usize
+    ensures { λ r. ⌜ Puts (countsText c) (now (out .entry)) at (now (out .exit)) r ⌝ }
+{
+    let word = text::put_all(out, at, b"counts");
+    let aim = put_f64(out, word, c.aim_difficult_strain_count);
+    let aim_no_sliders = put_f64(out, aim, c.aim_no_sliders_difficult_strain_count);
+    let speed = put_f64(out, aim_no_sliders, c.speed_difficult_strain_count);
+    let aim_sliders = put_f64(out, speed, c.aim_no_sliders_top_weighted_slider_count);
+    let speed_sliders = put_f64(out, aim_sliders, c.speed_top_weighted_slider_count);
+    let difficult = put_f64(out, speed_sliders, c.aim_difficult_slider_count);
+    let notes = put_f64(out, difficult, c.speed_note_count);
+    text::put(out, notes, b'\n')
 }
 
 // Times and distances from the object before.

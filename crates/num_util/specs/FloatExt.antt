@@ -9,6 +9,9 @@ use Rattle.num_floats.specs.Compare.{absOf}
 abbrev pub epsilon : Float
 epsilon = f64 0x3CB0000000000000
 
+unfoldable pub eq : Float → Float → Bool
+eq a b = Ieee.le (absOf (a ⊖ b)) epsilon
+
 unfoldable pub notEq : Float → Float → Bool
 notEq a b = Ieee.le epsilon (absOf (a ⊖ b))
 
