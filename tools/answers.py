@@ -110,7 +110,7 @@ def calls(oracle, data):
         yield from scripts.answers(oracle.second, oracle.program, b, pattern, lines, True)[0]
 
 
-PROGRAMS = {"test_opening": opening, "test_records": records, "test_values": values, "test_outer": values, "test_strains": strains, "test_playing": playing,
+PROGRAMS = {"test_opening": opening, "test_records": records, "test_outer": values, "test_strains": strains, "test_playing": playing,
             "test_listings": listings, "test_replacing": replacing, "test_foreign": tables, "test_scripts": calls}
 
 

@@ -6,7 +6,8 @@
 TOOLS is the folder of the oracle's scripts (mkcharts.py), BUILD that of its programs (oracle, oracle-cover). stdin has for each chart its length
 (u32, little-endian) and its bytes, first the charts that open, then the damaged ones, then those that opened until order 6
 came, then those beyond the lister's 32,768 bytes; stdout has the oracle's lines for each but the last, which get 7, in the same order. The same
-scripts and programs make the same files, with ORDERS=6 in the environment.
+scripts and programs make the same files, with ORDERS=6 in the environment. The program's own files have charts of another seed behind these
+(docs/CORPUS.md), which tools/answers.py answers with the others.
 
 The charts that open are: the examples, those of tools/edges (values just beside the bounds of a rule), charts at the ends of the lister's range,
 and of CANDIDATES charts of each style as many as it takes for every branch of the oracle to be met by WANTED charts (or by all that meet it), and

@@ -73,7 +73,7 @@ def calls_again(program, data):
     return b"".join(replacements.packed(*item) for item in joined(list(replacements.unpacked(data)), list(edits())))
 
 
-PROGRAMS = {**dict.fromkeys(("test_opening", "test_records", "test_values", "test_outer", "test_strains"), charts_again), "test_replacing": calls_again}
+PROGRAMS = {**dict.fromkeys(("test_opening", "test_records", "test_outer", "test_strains"), charts_again), "test_replacing": calls_again}
 
 
 def main():

@@ -1,7 +1,7 @@
 #!/usr/bin/env python3
 """Tests of tools/chart.py: python3 -m unittest tools/test_chart.py
 
-The charts are the stored ones of the programs `test_opening` and `test_values`; the answers are those stored beside them.
+The charts are the stored ones of the programs `test_opening` and `test_listings`; the answers are those stored beside them.
 """
 import os
 import random
@@ -42,7 +42,7 @@ def text_of(*path):
 
 class Corpus(unittest.TestCase):
     def test_round_trip(self):
-        for program in ("test_opening", "test_values"):
+        for program in ("test_opening", "test_listings"):
             for i, b in enumerate(stored(program)):
                 text = chart.to_text(b)
                 self.assertEqual(chart.to_bytes(text), b, f"chart {i} of {program}")

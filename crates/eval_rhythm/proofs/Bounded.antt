@@ -15,10 +15,10 @@ use Rattle.eval_rhythm.specs.declared.island.IslandCount.{IslandCount}
 use Rattle.eval_rhythm.specs.declared.step.Cell.{Cell}
 use Rattle.eval_rhythm.specs.Constants.{threeTenths}
 use Rattle.eval_rhythm.specs.Counts.{findFrom}
-use Rattle.eval_rhythm.specs.Step.{Walk, freshWalk, deltasOf, Good}
+use Rattle.eval_rhythm.specs.Step.{Walk, freshWalk, deltasOf}
 use Rattle.eval_rhythm.specs.Rhythm.{Cells, startOf, cellsAt, countBefore}
 use Rattle.eval_rhythm.specs.Comparisons.{comparedOf, comparedAt, comparedBy, comparedIn, turnAt, comparisonsFrom, comparisonsBy, mostComparisons, ComparisonsBounded}
-use Rattle.eval_rhythm.proofs.Good.{good-fresh, good-step}
+use Rattle.eval_rhythm.proofs.Good.{Good, good-fresh, good-step}
 use Rattle.eval_rhythm.proofs.Laws.{start-le, hist-few}
 
 -- a search compares no more than there is
@@ -53,7 +53,7 @@ most-more zero l m h = zero-le
 most-more (suc k) zero m h = absurd (omega arith)
 most-more (suc k) (suc l) m h = add-le (m - 1) (m - 1) (most k (suc m)) (most l (suc m)) (omega arith) (most-more k l (suc m) (omega arith))
 
-from-le : (v : Cells) (hist : ℕ) (window eps : Float) (k m : ℕ) (w : Walk) → Good m eps w → comparisonsFrom v hist window eps k w ≤ most k m
+from-le : (v : Cells) (hist : ℕ) (window eps : Float) (k m : ℕ) (w : Walk) → Good m w → comparisonsFrom v hist window eps k w ≤ most k m
 unfolding comparisonsFrom most
 from-le v hist window eps zero m w g = zero-le
 from-le v hist window eps (suc k) m w g =

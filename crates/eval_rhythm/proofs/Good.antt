@@ -5,7 +5,7 @@ use mathlib.Core.Path.{_≡_, refl, _∙_}
 use mathlib.Core.Bool.{Bool, true, false, cond}
 use mathlib.Core.List.{List, [], _∷_}
 use lib.Dec.{ltb}
-use lib.ListN.{getD, set, replicate, length-set}
+use lib.ListN.{getD, set, length, replicate, length-set}
 use lib.IntN.{ℤ, pos, negsuc, natAbs, _+ℤ_}
 use lib.Signed.{nonNeg}
 use lib.Ieee as Ieee
@@ -18,9 +18,22 @@ use Rattle.eval_rhythm.specs.declared.island.IslandCount.{IslandCount}
 use Rattle.eval_rhythm.specs.declared.step.Deltas.{Deltas}
 use Rattle.eval_rhythm.specs.declared.step.Cell.{Cell}
 use Rattle.eval_rhythm.specs.Island.{IslandOk, maxZ, eqI, newIsland, newWithDelta, settledOf, addDelta, sameOf}
-use Rattle.eval_rhythm.specs.Counts.{placeOf, bumpedOf, entryOf, CountOk, CountsOk, noCount}
-use Rattle.eval_rhythm.specs.Step.{Walk, scaledOf, effectiveOf, progressedOf, beganOf, switchedOf, freshState, freshWalk, switchStep, stepBy, deltasOf, stepOf, Good}
+use Rattle.eval_rhythm.specs.Counts.{placeOf, bumpedOf, entryOf, CountOk, noCount}
+use Rattle.eval_rhythm.specs.Step.{Walk, scaledOf, effectiveOf, progressedOf, beganOf, switchedOf, freshState, freshWalk, switchStep, stepBy, deltasOf, stepOf}
 use Rattle.eval_rhythm.proofs.Signed.{no}
+
+-- what holds of the array after m turns
+pub record CountsOk (m : ℕ) (es : List IslandCount) : Type 0 where
+  pub wide : length es ≡ 32
+  pub at : (p : ℕ) → CountOk m (getD es p noCount)
+
+-- what holds after m turns, the first of which begins an island at most
+pub record Good (m : ℕ) (w : Walk) : Type 0 where
+  pub island-ok : IslandOk m (w .state .island)
+  pub prev-ok : IslandOk m (w .state .«prev_island»)
+  pub counts-ok : CountsOk m (w .counts)
+  pub begun : w .state .«first_delta_switch» ≡ true → 1 ≤ m
+  pub few : w .state .n ≤ m - 1
 
 ok-mono : (m k : ℕ) (s : RhythmIsland) → m ≤ k → IslandOk m s → IslandOk k s
 ok-mono m k s h o = record { delta-pos = o .delta-pos; count-pos = o .count-pos; count-le = omega (arith, o .count-le) }
@@ -104,21 +117,19 @@ counts-set m es i e o c = record {
   at = set-each (CountOk (suc m)) es i e o (counts-mono m (suc m) es (omega arith) c .at);
 }
 
-pub good-mono : (m k : ℕ) (eps : Float) (w : Walk) → m ≤ k → Good m eps w → Good k eps w
-good-mono m k eps w h g = record {
+pub good-mono : (m k : ℕ) (w : Walk) → m ≤ k → Good m w → Good k w
+good-mono m k w h g = record {
   island-ok = ok-mono m k (w .state .island) h (g .island-ok);
-  island-eps = g .island-eps;
   prev-ok = ok-mono m k (w .state .«prev_island») h (g .prev-ok);
   counts-ok = counts-mono m k (w .counts) h (g .counts-ok);
   begun = λ on. omega (arith, g .begun on);
   few = omega (arith, g .few);
 }
 
-pub good-fresh : (eps : Float) → Good 0 eps (freshWalk eps)
+pub good-fresh : (eps : Float) → Good 0 (freshWalk eps)
 unfolding freshWalk freshState newIsland
 good-fresh eps = record {
   island-ok = ok-new 0 eps;
-  island-eps = refl;
   prev-ok = ok-new 0 eps;
   counts-ok = record {
     wide = refl;
@@ -130,23 +141,21 @@ good-fresh eps = record {
   few = omega arith;
 }
 
-module _ (m : ℕ) (eps : Float) (w : Walk) (g : Good m eps w) where
-  good-progressed : (d : ℤ) → Good (suc m) eps (record { state = progressedOf (w .state) d; counts = w .counts })
+module _ (m : ℕ) (eps : Float) (w : Walk) (g : Good m w) where
+  good-progressed : (d : ℤ) → Good (suc m) (record { state = progressedOf (w .state) d; counts = w .counts })
   unfolding progressedOf addDelta
   good-progressed d = record {
     island-ok = ok-add m (w .state .island) d (g .island-ok);
-    island-eps = g .island-eps;
     prev-ok = ok-mono m (suc m) (w .state .«prev_island») (omega arith) (g .prev-ok);
     counts-ok = counts-mono m (suc m) (w .counts) (omega arith) (g .counts-ok);
     begun = λ on. omega arith;
     few = omega (arith, g .few);
   }
 
-  good-began : (ratio : Float) (d : ℤ) → Good (suc m) eps (record { state = beganOf (w .state) ratio d eps; counts = w .counts })
+  good-began : (ratio : Float) (d : ℤ) → Good (suc m) (record { state = beganOf (w .state) ratio d eps; counts = w .counts })
   unfolding beganOf newWithDelta
   good-began ratio d = record {
     island-ok = ok-with m d eps;
-    island-eps = refl;
     prev-ok = ok-mono m (suc m) (w .state .«prev_island») (omega arith) (g .prev-ok);
     counts-ok = counts-mono m (suc m) (w .counts) (omega arith) (g .counts-ok);
     begun = λ on. omega arith;
@@ -157,13 +166,12 @@ module _ (m : ℕ) (eps : Float) (w : Walk) (g : Good m eps w) where
   count-few h true = omega (arith, g .few)
   count-few h false = omega (arith, g .few)
 
-  good-switch : w .state .«first_delta_switch» ≡ true → (ratio : Float) (d : Deltas) (curr prev : Cell) (decay window : Float) → Good (suc m) eps (switchStep w ratio d curr prev decay window eps)
+  good-switch : w .state .«first_delta_switch» ≡ true → (ratio : Float) (d : Deltas) (curr prev : Cell) (decay window : Float) → Good (suc m) (switchStep w ratio d curr prev decay window eps)
   unfolding switchStep switchedOf newWithDelta
   good-switch on ratio d curr prev decay window =
       let at : ℕ = placeOf (w .counts) (w .state .n) (w .state .island) in
       record {
         island-ok = ok-with m (Ieee.toSigned 31 (d .curr)) eps;
-        island-eps = refl;
         prev-ok = ok-mono m (suc m) (w .state .island) (omega arith) (g .island-ok);
         counts-ok = counts-set m (w .counts) at _
             (entry-ok m (w .counts) (w .state .n) at (w .state .island) (w .state .«prev_island») (g .island-ok) (g .counts-ok)) (g .counts-ok);
@@ -171,14 +179,14 @@ module _ (m : ℕ) (eps : Float) (w : Walk) (g : Good m eps w) where
         few = count-few (g .begun on) (ltb at (w .state .n));
       }
 
-  by : (b d e : Bool) (x y z : Walk) → Good (suc m) eps x → (b ≡ true → Good (suc m) eps y) → Good (suc m) eps z
-      → Good (suc m) eps (cond b (cond d x y) (cond e z w))
+  by : (b d e : Bool) (x y z : Walk) → Good (suc m) x → (b ≡ true → Good (suc m) y) → Good (suc m) z
+      → Good (suc m) (cond b (cond d x y) (cond e z w))
   by true true e x y z p q r = p
   by true false e x y z p q r = q refl
   by false d true x y z p q r = r
-  by false d false x y z p q r = good-mono m (suc m) eps w (omega arith) g
+  by false d false x y z p q r = good-mono m (suc m) w (omega arith) g
 
-  good-by : (d : Deltas) (curr prev : Cell) (decay window : Float) → Good (suc m) eps (stepBy w d curr prev decay window eps)
+  good-by : (d : Deltas) (curr prev : Cell) (decay window : Float) → Good (suc m) (stepBy w d curr prev decay window eps)
   unfolding stepBy
   good-by d curr prev decay window =
       by (w .state .«first_delta_switch») (lt (absOf (d .prev ⊖ d .curr)) eps) (lt (d .curr ⊕ eps) (d .prev)) _ _ _
@@ -186,6 +194,6 @@ module _ (m : ℕ) (eps : Float) (w : Walk) (g : Good m eps w) where
       (λ on. good-switch on (effectiveOf (d .prev) (d .curr) eps) d curr prev decay window)
       (good-began (scaledOf (scaledOf (effectiveOf (d .prev) (d .curr) eps) (curr .slider) sixTenths) (prev .slider) sixTenths) (Ieee.toSigned 31 (d .curr)))
 
-  pub good-step : (curr prev last : Cell) (decay window : Float) → Good (suc m) eps (stepOf w curr prev last decay window eps)
+  pub good-step : (curr prev last : Cell) (decay window : Float) → Good (suc m) (stepOf w curr prev last decay window eps)
   unfolding stepOf
   good-step curr prev last decay window = good-by (deltasOf curr prev last) curr prev decay window

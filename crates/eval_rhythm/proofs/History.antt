@@ -4,7 +4,7 @@ use native.Mathlib.Omega.{arith}
 use native.Mathlib.Nat.{sub-zero}
 use borrow.Author.Tests.{lt-ltb, le-ltb, ltb-true, ltb-false}
 use mathlib.Core.Path.{_≡_, refl, sym, ap, _∙_}
-use mathlib.Core.Bool.{Bool, true, false, not}
+use mathlib.Core.Bool.{Bool, true, false, cond, not}
 use mathlib.Core.List.{List}
 use lib.Dec.{ltb}
 use lib.ListN.{set, replicate}
@@ -12,20 +12,22 @@ use lib.IntN.{pos}
 use lib.Ieee as Ieee
 use lib.Ieee.{Float, lt}
 use Rattle.num_floats.specs.Numbers.{_⊕_, _⊖_, zero64}
+use Rattle.num_floats.specs.Compare.{absOf}
 use Rattle.osu_object.specs.Osu.{Object}
 use Rattle.osu_difficulty_object.specs.Reading.{tapnessOf, windowOf}
 use Rattle.osu_difficulty_object.specs.declared.OsuDifficultyObject.{OsuDifficultyObject}
 use Rattle.eval_rhythm.specs.Constants.{historyTimeMax}
 use Rattle.eval_rhythm.specs.declared.island.IslandCount.{IslandCount}
+use Rattle.eval_rhythm.specs.declared.island.RhythmIsland.{RhythmIsland}
 use Rattle.eval_rhythm.specs.declared.step.RhythmState.{RhythmState}
 use Rattle.eval_rhythm.specs.declared.step.Deltas.{Deltas}
 use Rattle.eval_rhythm.specs.declared.step.Cell.{Cell}
-use Rattle.eval_rhythm.specs.Island.{eqI, similarOf}
+use Rattle.eval_rhythm.specs.Island.{newIsland}
 use Rattle.eval_rhythm.specs.Counts.{placeOf, entryOf}
-use Rattle.eval_rhythm.specs.Step.{Walk, walkOf, switchRatio, fasterTwice, lastRatio, decayOf, switchedOf, freshState, freshWalk, switchStep, stepOf}
+use Rattle.eval_rhythm.specs.Step.{Walk, walkOf, ratioOf, lastRatio, decayOf, switchedOf, freshState, freshWalk, switchStep, effectiveOf, deltasOf, switchesOf, stepBy, stepOf}
 use Rattle.eval_rhythm.specs.Rhythm.{Cells, runOf, nearOf, startFrom, cellAt, cellsAt}
-use Rattle.eval_rhythm.specs.Comparisons.{comparedIn, turnAt, comparisonsFrom}
-use Rattle.eval_rhythm.proofs.Entries.{entries-fresh}
+use Rattle.eval_rhythm.specs.Comparisons.{comparedAt, comparedBy, comparedIn, turnAt, comparisonsFrom}
+use Rattle.eval_rhythm.proofs.Signed.{no}
 
 -- ---- the search for the start, and the run
 
@@ -62,27 +64,75 @@ count-one v hist window eps (suc k) s h = let e : suc k - 1 ≡ k = omega arith 
 
 -- ---- from what the calls of a turn ensure
 
-pub fresh-walk : (eps : Float) (s : RhythmState) → s ≡ freshState eps
-    → walkOf s eps (replicate 32 (pos 0)) (replicate 32 (pos 0)) (replicate 32 0) ≡ freshWalk eps
+pub fresh-walk : (eps : Float) (s : RhythmState) (island : RhythmIsland) → s ≡ freshState eps → island ≡ newIsland eps
+    → walkOf s (replicate 32 (record { island = island; count = 0 })) ≡ freshWalk eps
 unfolding freshWalk
-fresh-walk eps s e = rw (e, entries-fresh eps 32)
+fresh-walk eps s island e i = rw (e, i)
 
 pub switch-is : (w : Walk) (ratio : Float) (d : Deltas) (curr prev : Cell) (decay window eps : Float)
-    (at : ℕ) (e : IslandCount) (es : List IslandCount) (similar faster : Bool) (r tapped tap last : Float) (next : RhythmState)
+    (at : ℕ) (e : IslandCount) (es : List IslandCount) (r tapped tap last : Float) (next : RhythmState)
     → at ≡ placeOf (w .counts) (w .state .n) (w .state .island)
     → e ≡ entryOf (w .counts) (w .state .n) at (w .state .island) (w .state .«prev_island»)
     → es ≡ set (w .counts) at e
-    → similar ≡ similarOf (w .state .island) (w .state .«prev_island»)
-    → faster ≡ fasterTwice d eps
-    → r ≡ switchRatio ratio (curr .slider) (prev .slider) similar faster (eqI (w .state .«prev_island» .«delta_count») (w .state .island .«delta_count»))
+    → r ≡ ratioOf (w .state) ratio d curr prev eps
     → tapped ≡ windowOf (prev .spinner) window
     → tap ≡ tapnessOf (prev .«delta_time») (curr .«delta_time») tapped
     → last ≡ lastRatio r (ltb at (w .state .n)) (w .state .island .delta) (e .count) tap
     → next ≡ switchedOf (w .state) last (ltb at (w .state .n)) (not (lt (d .prev ⊕ eps) (d .curr))) decay (Ieee.toSigned 31 (d .curr)) eps
     → record { state = next; counts = es } ≡ switchStep w ratio d curr prev decay window eps
 unfolding switchStep
-switch-is w ratio d curr prev decay window eps at e es similar faster r tapped tap last next h1 h2 h3 h4 h5 h6 h7 h8 h9 h10 =
-    rw (h10, h9, h8, h7, h6, h5, h4, h3, h2, h1)
+switch-is w ratio d curr prev decay window eps at e es r tapped tap last next h1 h2 h3 h4 h5 h6 h7 h8 = rw (h8, h7, h6, h5, h4, h3, h2, h1)
+
+-- a turn that switches, and one that does not
+switch-on : (b c : Bool) → cond b (not c) false ≡ true → (b ≡ true) × (c ≡ false)
+switch-on true false h = (refl, refl)
+switch-on true true h = no h
+switch-on false c h = no h
+
+none-compared : (b c : Bool) (x : ℕ) → cond b (not c) false ≡ false → cond b (cond c 0 x) 0 ≡ 0
+none-compared true true x h = refl
+none-compared true false x h = no (sym h)
+none-compared false c x h = refl
+
+stays-near : (b c : Bool) → cond b (not c) false ≡ false → b ≡ true → c ≡ true
+stays-near true true h t = refl
+stays-near true false h t = no (sym h)
+stays-near false c h t = no t
+
+pub near-when : (s : RhythmState) (d : Deltas) (eps : Float) → switchesOf s d eps ≡ false → s .«first_delta_switch» ≡ true
+    → lt (absOf (d .prev ⊖ d .curr)) eps ≡ true
+unfolding switchesOf
+near-when s d eps h t = stays-near (s .«first_delta_switch») (lt (absOf (d .prev ⊖ d .curr)) eps) h t
+
+module _ (w : Walk) (curr prev : Cell) (decay window eps : Float) (d : Deltas) where
+  by-switch : switchesOf (w .state) d eps ≡ true
+      → (stepBy w d curr prev decay window eps ≡ switchStep w (effectiveOf (d .prev) (d .curr) eps) d curr prev decay window eps)
+      × (comparedBy w d eps ≡ comparedAt w)
+  unfolding stepBy comparedBy switchesOf
+  by-switch t = let p = switch-on (w .state .«first_delta_switch») (lt (absOf (d .prev ⊖ d .curr)) eps) t in (rw (p .0, p .1), rw (p .0, p .1))
+
+  by-other : switchesOf (w .state) d eps ≡ false → comparedBy w d eps ≡ 0
+  unfolding comparedBy switchesOf
+  by-other t = none-compared (w .state .«first_delta_switch») (lt (absOf (d .prev ⊖ d .curr)) eps) (comparedAt w) t
+
+module _ (w next : Walk) (curr prev last : Cell) (decay window eps : Float) (d : Deltas) (b : Bool) (hd : d ≡ deltasOf curr prev last)
+    (hb : b ≡ switchesOf (w .state) d eps) where
+  pub turn-switch : (more : ℕ) → b ≡ true → next ≡ switchStep w (effectiveOf (d .prev) (d .curr) eps) d curr prev decay window eps → more ≡ comparedAt w
+      → (next ≡ stepOf w curr prev last decay window eps) × (more ≡ comparedIn w curr prev last eps)
+  unfolding stepOf comparedIn
+  turn-switch more t hn hm =
+      let s = by-switch w curr prev decay window eps d (sym hb ∙ t) in (
+        hn ∙ sym (s .0) ∙ ap (λ (x : Deltas). stepBy w x curr prev decay window eps) hd,
+        hm ∙ sym (s .1) ∙ ap (λ (x : Deltas). comparedBy w x eps) hd,
+      )
+
+  pub turn-other : b ≡ false → next ≡ stepBy w d curr prev decay window eps
+      → (next ≡ stepOf w curr prev last decay window eps) × (0 ≡ comparedIn w curr prev last eps)
+  unfolding stepOf comparedIn
+  turn-other t hn = (
+    hn ∙ ap (λ (x : Deltas). stepBy w x curr prev decay window eps) hd,
+    sym (by-other w curr prev decay window eps d (sym hb ∙ t)) ∙ ap (λ (x : Deltas). comparedBy w x eps) hd,
+  )
 
 module _ (v : Cells) (hist : ℕ) where
   -- the walk from the next place on; and the comparisons so far, those of the turn and those to come

@@ -1,5 +1,4 @@
 pub mod Signed
-pub mod Entries
 pub mod Search
 pub mod Good
 pub mod History

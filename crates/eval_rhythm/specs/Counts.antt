@@ -2,22 +2,14 @@
 use Prim.Native.Nat.{ℕ, zero, suc, _+_, _≤_}
 use mathlib.Core.Path.{_≡_}
 use mathlib.Core.Bool.{Bool, cond}
-use mathlib.Core.List.{List, [], _∷_}
+use mathlib.Core.List.{List}
 use lib.Dec.{ltb}
-use lib.ListN.{getD, length}
-use lib.IntN.{ℤ, pos}
-use lib.Ieee.{Float, nan}
+use lib.ListN.{getD}
+use lib.IntN.{pos}
+use lib.Ieee.{nan}
 use Rattle.eval_rhythm.specs.Island.{IslandOk, defaultOf, sameOf}
 use Rattle.eval_rhythm.specs.declared.island.RhythmIsland.{RhythmIsland}
 use Rattle.eval_rhythm.specs.declared.island.IslandCount.{IslandCount}
-
--- the array, which is kept as one array a field; the islands of an evaluation share their epsilon
-unfoldable pub entriesOf : Float → List ℤ → List ℤ → List ℕ → List IslandCount
-entriesOf eps [] ks cs = []
-entriesOf eps (d ∷ ds) [] cs = []
-entriesOf eps (d ∷ ds) (k ∷ ks) [] = []
-entriesOf eps (d ∷ ds) (k ∷ ks) (c ∷ cs) =
-    record { island = record { «delta_difference_eps» = eps; delta = d; «delta_count» = k }; count = c } ∷ entriesOf eps ds ks cs
 
 -- what is read past the end
 abbrev pub noCount : IslandCount
@@ -27,6 +19,10 @@ noCount = record { island = record { «delta_difference_eps» = nan; delta = pos
 unfoldable pub findFrom : List IslandCount → ℕ → ℕ → RhythmIsland → ℕ
 findFrom es zero i s = i
 findFrom es (suc left) i s = cond (sameOf (getD es i noCount .island) s) i (findFrom es left (i + 1) s)
+
+-- the search for s among the first n entries ends at place i, where found stands
+abbrev pub EndsAt : List IslandCount → ℕ → RhythmIsland → ℕ → IslandCount → Type 0
+EndsAt es n s i found = (i ≡ findFrom es n 0 s) × (found ≡ getD es i noCount)
 
 -- `find`, then `filter`: of the first n entries the place of the one whose island equals s and is not the default, n where there is none
 unfoldable pub placeOf : List IslandCount → ℕ → RhythmIsland → ℕ
@@ -44,8 +40,3 @@ entryOf es n at s prev = cond (ltb at n) (bumpedOf (getD es at noCount) (sameOf 
 pub record CountOk (m : ℕ) (e : IslandCount) : Type 0 where
   pub island-ok : IslandOk m (e .island)
   pub count-le : e .count ≤ m
-
--- what holds of the array after m steps
-pub record CountsOk (m : ℕ) (es : List IslandCount) : Type 0 where
-  pub wide : length es ≡ 32
-  pub at : (p : ℕ) → CountOk m (getD es p noCount)

@@ -1,6 +1,5 @@
 -- A turn of the loop of evaluators/rhythm.rs, in its order of operations.
-use Prim.Native.Nat.{ℕ, _+_, _-_, _≤_}
-use mathlib.Core.Path.{_≡_}
+use Prim.Native.Nat.{ℕ, _+_, _-_}
 use mathlib.Core.Bool.{Bool, true, false, cond, not}
 use mathlib.Core.List.{List}
 use lib.Dec.{ltb}
@@ -16,8 +15,8 @@ use Rattle.num_elementary.specs.Power.{powerOf}
 use Rattle.num_util.specs.Difficulty.{logistic, smoothstepBellCurve}
 use Rattle.osu_difficulty_object.specs.Reading.{tapnessOf, windowOf}
 use Rattle.eval_rhythm.specs.Constants.{historyTimeMax, rhythmRatioMultiplier, threeTenths, eighth, sixTenths, threeQuarters, leastDelta, eight, repeatMidpoint, repeatSlope, repeatMost}
-use Rattle.eval_rhythm.specs.Island.{IslandOk, eqI, newIsland, newWithDelta, addDelta, similarOf}
-use Rattle.eval_rhythm.specs.Counts.{entriesOf, placeOf, entryOf, CountsOk}
+use Rattle.eval_rhythm.specs.Island.{eqI, newIsland, newWithDelta, addDelta, similarOf, sameOf}
+use Rattle.eval_rhythm.specs.Counts.{placeOf, entryOf}
 use Rattle.eval_rhythm.specs.declared.island.IslandCount.{IslandCount}
 use Rattle.eval_rhythm.specs.declared.step.RhythmState.{RhythmState}
 use Rattle.eval_rhythm.specs.declared.step.Cell.{Cell}
@@ -48,7 +47,7 @@ decayOf start other hist k =
 unfoldable pub fasterTwice : Deltas → Float → Bool
 fasterTwice d eps = cond (Ieee.lt (d .prev ⊕ eps) (d .last)) (Ieee.lt (d .curr ⊕ eps) (d .prev)) false
 
--- the ratio of a switch before the island counts
+-- by the flags of a switch
 unfoldable pub switchRatio : Float → Bool → Bool → Bool → Bool → Bool → Float
 switchRatio ratio currSlider prevSlider similar faster equal =
     scaledOf (scaledOf (scaledOf (scaledOf (scaledOf ratio currSlider eighth) prevSlider threeTenths) similar half64) faster eighth) equal half64
@@ -98,6 +97,20 @@ switchedOf s ratio repeated on decay delta eps = record {
   n = cond repeated (s .n) (s .n + 1);
 }
 
+-- the ratio of a switch before the island counts
+unfoldable pub ratioOf : RhythmState → Float → Deltas → Cell → Cell → Float → Float
+ratioOf s ratio d curr prev eps =
+    switchRatio ratio (curr .slider) (prev .slider) (similarOf (s .island) (s .«prev_island»)) (fasterTwice d eps)
+    (eqI (s .«prev_island» .«delta_count») (s .island .«delta_count»))
+
+-- the delta changes while an island is counted
+unfoldable pub switchesOf : RhythmState → Deltas → Float → Bool
+switchesOf s d eps = cond (s .«first_delta_switch») (not (Ieee.lt (absOf (d .prev ⊖ d .curr)) eps)) false
+
+-- the search for the island goes past place i, where an entry stands
+unfoldable pub passesOf : RhythmState → ℕ → IslandCount → Bool
+passesOf s i e = cond (ltb i (s .n)) (not (sameOf (e .island) (s .island))) false
+
 -- ---- a turn
 
 -- the state and the island counts
@@ -105,8 +118,8 @@ pub record Walk : Type 0 where
   pub state : RhythmState
   pub counts : List IslandCount
 
-abbrev pub walkOf : RhythmState → Float → List ℤ → List ℤ → List ℕ → Walk
-walkOf s eps ds ks cs = record { state = s; counts = entriesOf eps ds ks cs }
+abbrev pub walkOf : RhythmState → List IslandCount → Walk
+walkOf s es = record { state = s; counts = es }
 
 unfoldable pub freshState : Float → RhythmState
 freshState eps = record {
@@ -126,8 +139,7 @@ switchStep w ratio d curr prev decay window eps =
     let s = w .state in
     let at = placeOf (w .counts) (s .n) (s .island) in
     let e = entryOf (w .counts) (s .n) at (s .island) (s .«prev_island») in
-    let r = switchRatio ratio (curr .slider) (prev .slider) (similarOf (s .island) (s .«prev_island»)) (fasterTwice d eps)
-    (eqI (s .«prev_island» .«delta_count») (s .island .«delta_count»)) in
+    let r = ratioOf s ratio d curr prev eps in
     let tap = tapnessOf (prev .«delta_time») (curr .«delta_time») (windowOf (prev .spinner) window) in
     record {
       state =
@@ -162,12 +174,3 @@ deltasOf curr prev last = record { curr = atLeast (curr .«delta_time»); prev =
 
 unfoldable pub stepOf : Walk → Cell → Cell → Cell → Float → Float → Float → Walk
 stepOf w curr prev last decay window eps = stepBy w (deltasOf curr prev last) curr prev decay window eps
-
--- what holds after m turns, the first of which begins an island at most
-pub record Good (m : ℕ) (eps : Float) (w : Walk) : Type 0 where
-  pub island-ok : IslandOk m (w .state .island)
-  pub island-eps : w .state .island .«delta_difference_eps» ≡ eps
-  pub prev-ok : IslandOk m (w .state .«prev_island»)
-  pub counts-ok : CountsOk m (w .counts)
-  pub begun : w .state .«first_delta_switch» ≡ true → 1 ≤ m
-  pub few : w .state .n ≤ m - 1

@@ -2,11 +2,14 @@
 ghost use mathlib.Core.Path.{_≡_};
 ghost use mathlib.Core.Bool.{true};
 ghost use Prim.Native.Nat.{_≤_, _<_};
-ghost use lib.ListN.{getD, set, length};
+ghost use mathlib.Core.List.{List};
+ghost use lib.ListN.{getD};
 ghost use lib.Signed.{nonNeg};
 ghost use Rattle.eval_rhythm.specs.Island.{maxZ, distZ, newIsland, newWithDelta, settledOf, addDelta, similarOf, defaultOf, sameOf, IslandOk};
-ghost use Rattle.eval_rhythm.specs.Counts.{entriesOf, noCount, findFrom, placeOf, bumpedOf, entryOf, CountOk, CountsOk};
+ghost use Rattle.eval_rhythm.specs.Counts.{noCount, EndsAt, placeOf, bumpedOf, entryOf, CountOk};
 ghost use Rattle.eval_rhythm.specs.Comparisons.{comparedOf};
+ghost use Rattle.eval_rhythm.specs.declared.island.RhythmIsland.{RhythmIsland};
+ghost use Rattle.eval_rhythm.specs.declared.island.IslandCount.{IslandCount};
 
 const MIN_DELTA_TIME: i32 = 25;
 
@@ -135,100 +138,21 @@ impl RhythmIsland {
     }
 }
 
-// Entry i of the island counts. They are kept as an array of numbers for each field, and share eps.
-pub fn entry_at(
-    deltas: &[i32; 32],
-    delta_counts: &[i32; 32],
-    counts: &[u32; 32],
-    eps: f64,
-    i: usize,
-) -> IslandCount
-    requires { ⌜ (i < 32) × (length (entriesOf eps (now deltas) (now «delta_counts») (now counts)) ≡ 32) ⌝ }
-    ensures { λ r. ⌜ (r ≡ getD (entriesOf eps (now (deltas .entry)) (now («delta_counts» .entry)) (now (counts .entry))) i noCount)
-        × (r .island .«delta_difference_eps» ≡ eps) ⌝ }
+// Of a search among n entries that ended at i, where found stands: the place of an island that is counted already, n where it is new; and the
+// entries up to the first match, or all of them.
+pub fn place_of(i: usize, found: IslandCount, n: usize) -> Search
+    requires { ⌜ (i ≤ n) × (n < 32) ⌝ }
+    ensures place { λ r. ⌜ ((es : List IslandCount) (island : RhythmIsland) → EndsAt es n island i found
+        → (r .place ≡ placeOf es n island) × (r .compared ≡ comparedOf es n island)) ⌝ }
+    ensures within { λ r. ⌜ (r .place ≤ n) × (r .place < n → r .place ≡ i) ⌝ }
 {
-    let island = RhythmIsland {
-        delta_difference_eps: eps,
-        delta: deltas[i],
-        delta_count: delta_counts[i],
-    };
-    IslandCount {
-        island,
-        count: counts[i],
-    }
-}
-
-// Entry i of the island counts becomes e.
-pub fn put_entry(
-    deltas: &mut [i32; 32],
-    delta_counts: &mut [i32; 32],
-    counts: &mut [u32; 32],
-    i: usize,
-    e: IslandCount,
-)
-    requires { ⌜ i < 32 ⌝ }
-    ensures { λ _. ⌜ entriesOf (e .island .«delta_difference_eps») (now (deltas .exit)) (now («delta_counts» .exit)) (now (counts .exit))
-        ≡ set (entriesOf (e .island .«delta_difference_eps») (now (deltas .entry)) (now («delta_counts» .entry)) (now (counts .entry))) i e ⌝ }
-{
-    let island = e.island;
-    let delta = island.delta;
-    let delta_count = island.delta_count;
-    deltas[i] = delta;
-    delta_counts[i] = delta_count;
-    counts[i] = e.count;
-}
-
-// The place of the first entry whose island equals the given one; n where there is none.
-pub fn find(
-    deltas: &[i32; 32],
-    delta_counts: &[i32; 32],
-    counts: &[u32; 32],
-    n: usize,
-    island: RhythmIsland,
-    eps: f64,
-) -> usize
-    requires { ⌜ (n ≤ 32) × (nonNeg (island .delta) ≡ true) × (CountsOk 31 (entriesOf eps (now deltas) (now «delta_counts») (now counts))) ⌝ }
-    ensures { λ r. ⌜ (r ≡ findFrom (entriesOf eps (now (deltas .entry)) (now («delta_counts» .entry)) (now (counts .entry))) n 0 island)
-        × (r ≤ n) ⌝ }
-{
-    let mut i: usize = 0;
-    while i < n {
-        let entry = entry_at(deltas, delta_counts, counts, eps, i);
-        let other = entry.island;
-        if other.same(island) {
-            return i;
-        }
-        i += 1;
-    }
-    i
-}
-
-// The place of an island that is counted already, n where it is new; and the entries up to the first match, or all of them.
-pub fn place_of(
-    deltas: &[i32; 32],
-    delta_counts: &[i32; 32],
-    counts: &[u32; 32],
-    n: usize,
-    island: RhythmIsland,
-    eps: f64,
-) -> Search
-    requires { ⌜ (n ≤ 32) × (nonNeg (island .delta) ≡ true) × (CountsOk 31 (entriesOf eps (now deltas) (now «delta_counts») (now counts))) ⌝ }
-    ensures { λ r. ⌜ (r .place ≡ placeOf (entriesOf eps (now (deltas .entry)) (now («delta_counts» .entry)) (now (counts .entry))) n island)
-        × (r .place ≤ n)
-        × (r .compared ≡ comparedOf (entriesOf eps (now (deltas .entry)) (now («delta_counts» .entry)) (now (counts .entry))) n island) ⌝ }
-{
-    let at = find(deltas, delta_counts, counts, n, island, eps);
-    if at < n {
-        let compared = at + 1;
-        let entry = entry_at(deltas, delta_counts, counts, eps, at);
-        let found = entry.island;
-        if found.is_default() {
+    if i < n {
+        let compared = i + 1;
+        let other = found.island;
+        if other.is_default() {
             return Search { place: n, compared };
         }
-        return Search {
-            place: at,
-            compared,
-        };
+        return Search { place: i, compared };
     }
     Search {
         place: n,
@@ -252,25 +176,19 @@ pub fn bumped(e: IslandCount, more: bool) -> IslandCount
     }
 }
 
-// What is to stand at an island's place.
+// What is to stand at an island's place, where found stands if the island is counted already.
 pub fn entry_of(
-    deltas: &[i32; 32],
-    delta_counts: &[i32; 32],
-    counts: &[u32; 32],
+    found: IslandCount,
     n: usize,
     at: usize,
     island: RhythmIsland,
     prev: RhythmIsland,
-    eps: f64,
 ) -> IslandCount
-    requires { ⌜ (n ≤ 32) × (IslandOk 31 island) × (island .«delta_difference_eps» ≡ eps) × (IslandOk 31 prev)
-        × (CountsOk 31 (entriesOf eps (now deltas) (now «delta_counts») (now counts))) ⌝ }
-    ensures { λ r. ⌜ (r ≡ entryOf (entriesOf eps (now (deltas .entry)) (now («delta_counts» .entry)) (now (counts .entry))) n at island prev)
-        × (r .island .«delta_difference_eps» ≡ eps) ⌝ }
+    requires { ⌜ (IslandOk 31 island) × (IslandOk 31 prev) × (CountOk 31 found) ⌝ }
+    ensures { λ r. ⌜ ((es : List IslandCount) → (at < n → found ≡ getD es at noCount) → r ≡ entryOf es n at island prev) ⌝ }
 {
     if at < n {
-        let entry = entry_at(deltas, delta_counts, counts, eps, at);
-        return bumped(entry, prev.same(island));
+        return bumped(found, prev.same(island));
     }
     IslandCount { island, count: 1 }
 }

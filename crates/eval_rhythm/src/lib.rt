@@ -10,11 +10,13 @@ ghost use Rattle.eval_rhythm.specs.Step.{freshWalk};
 ghost use Rattle.eval_rhythm.specs.Rhythm.{runOf, startOf, valueOf, cellAt, cellsAt, countBefore, rhythmAtPlace};
 ghost use Rattle.eval_rhythm.specs.Comparisons.{comparisonsFrom, comparisonsAtPlace};
 use chart_fields::Layout;
+use island::IslandCount;
+use island::RhythmIsland;
 use osu_object::OsuObject;
 use osu_records::Part;
 use step::Cell;
+use step::Deltas;
 use step::RhythmState;
-use step::Trio;
 
 pub mod island;
 pub mod step;
@@ -116,9 +118,9 @@ fn run(
             comparisons: 0,
         };
     }
-    let mut deltas = [0i32; 32];
-    let mut delta_counts = [0i32; 32];
-    let mut counts = [0u32; 32];
+    let island = RhythmIsland::new(eps);
+    let fresh = IslandCount { island, count: 0 };
+    let mut counts = [fresh; 32];
     let mut s = RhythmState::new(eps);
     let mut prev = cell_at(t, part, chart, lay, j - (from + 1));
     let mut last = cell_at(t, part, chart, lay, j - (from + 2));
@@ -126,19 +128,23 @@ fn run(
     let mut k = from;
     while 0 < k {
         let curr = cell_at(t, part, chart, lay, j - k);
-        let d = step::decay(here.start_time, curr.start_time, hist, k);
-        let cells = Trio { curr, prev, last };
-        let turn = s.step(
-            &mut deltas,
-            &mut delta_counts,
-            &mut counts,
-            cells,
-            d,
-            window,
-            eps,
-        );
-        s = turn.state;
-        comparisons += turn.compared;
+        let decay = step::decay(here.start_time, curr.start_time, hist, k);
+        let d = Deltas::new(curr, prev, last);
+        if s.switches(d, eps) {
+            let mut i: usize = 0;
+            while s.passes(i, counts[i]) {
+                i += 1;
+            }
+            let found = counts[i];
+            let switch = s.switch_step(i, found, d, curr, prev, decay, window, eps);
+            let place = switch.place;
+            let entry = switch.entry;
+            counts[place] = entry;
+            comparisons += switch.compared;
+            s = switch.state;
+        } else {
+            s = s.other_step(d, curr, prev, eps);
+        }
         last = prev;
         prev = curr;
         k -= 1;

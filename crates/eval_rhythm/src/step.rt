@@ -1,14 +1,20 @@
 // A turn of the loop of evaluators/rhythm.rs.
 ghost use mathlib.Core.Path.{_≡_};
-ghost use mathlib.Core.Bool.{cond};
+ghost use mathlib.Core.Bool.{true, false, cond};
+ghost use mathlib.Core.List.{List};
 ghost use Prim.Native.Nat.{_+_, _≤_, _<_};
+ghost use lib.ListN.{set};
+ghost use lib.Signed.{nonNeg};
+ghost use lib.Ieee.{Float};
 ghost use Rattle.eval_rhythm.specs.Island.{IslandOk};
-ghost use Rattle.eval_rhythm.specs.Step.{scaledOf, effectiveOf, decayOf, fasterTwice, switchRatio};
-ghost use Rattle.eval_rhythm.specs.Step.{factorOf, lastRatio, progressedOf, beganOf, switchedOf};
-ghost use Rattle.eval_rhythm.specs.Step.{walkOf, freshState, switchStep, stepBy, stepOf, Good};
-ghost use Rattle.eval_rhythm.specs.Comparisons.{comparedAt, comparedBy, comparedIn};
+ghost use Rattle.eval_rhythm.specs.Counts.{EndsAt, CountOk};
+ghost use Rattle.eval_rhythm.specs.Step.{scaledOf, effectiveOf, decayOf, fasterTwice, switchRatio, factorOf, lastRatio};
+ghost use Rattle.eval_rhythm.specs.Step.{progressedOf, beganOf, switchedOf, freshState, deltasOf, switchesOf, passesOf, ratioOf, walkOf, switchStep, stepBy};
+ghost use Rattle.eval_rhythm.specs.Comparisons.{comparedAt};
+ghost use Rattle.eval_rhythm.specs.declared.island.IslandCount.{IslandCount};
 use crate::HISTORY_TIME_MAX;
 use crate::island;
+use crate::island::IslandCount;
 use crate::island::RhythmIsland;
 
 const RHYTHM_RATIO_MULTIPLIER: f64 = 15.0;
@@ -26,9 +32,11 @@ pub struct RhythmState {
     pub n: usize,
 }
 
-// What a turn gives: the state after it, and how many entries its search compared.
-pub struct Turn {
+// What a switch gives: the state after it, the entry to store and its place, and how many entries were compared.
+pub struct Switch {
     pub state: RhythmState,
+    pub place: usize,
+    pub entry: IslandCount,
     pub compared: usize,
 }
 
@@ -40,18 +48,24 @@ pub struct Cell {
     pub spinner: bool,
 }
 
-// Three cells in a row: the turn's own and the two before it.
-pub struct Trio {
-    pub curr: Cell,
-    pub prev: Cell,
-    pub last: Cell,
-}
-
 // The delta times of three records in a row.
 pub struct Deltas {
     pub curr: f64,
     pub prev: f64,
     pub last: f64,
+}
+
+impl Deltas {
+    // Of three cells, each held to the least.
+    pub fn new(curr: Cell, prev: Cell, last: Cell) -> Self
+        ensures { λ r. ⌜ r ≡ deltasOf curr prev last ⌝ }
+    {
+        Self {
+            curr: num_floats::max(curr.delta_time, LEAST_DELTA),
+            prev: num_floats::max(prev.delta_time, LEAST_DELTA),
+            last: num_floats::max(last.delta_time, LEAST_DELTA),
+        }
+    }
 }
 
 // x times k where b is set.
@@ -215,131 +229,97 @@ impl RhythmState {
     }
 
     // The delta changes while an island is counted.
+    pub fn switches(self, d: Deltas, eps: f64) -> bool
+        ensures { λ r. ⌜ r ≡ switchesOf self d eps ⌝ }
+    {
+        if self.first_delta_switch {
+            !(num_floats::abs(d.prev - d.curr) < eps)
+        } else {
+            false
+        }
+    }
+
+    // The search goes past i, where entry stands: it is one of the n, and not the island's.
+    pub fn passes(self, i: usize, entry: IslandCount) -> bool
+        requires { ⌜ (nonNeg (self .island .delta) ≡ true) × (nonNeg (entry .island .delta) ≡ true) ⌝ }
+        ensures { λ r. ⌜ r ≡ passesOf self i entry ⌝ }
+    {
+        let other = entry.island;
+        if i < self.n {
+            !other.same(self.island)
+        } else {
+            false
+        }
+    }
+
+    // The ratio of a switch before the island counts.
+    pub fn ratio(self, d: Deltas, curr: Cell, prev: Cell, eps: f64) -> f64
+        requires { ⌜ (IslandOk 31 (self .island)) × (IslandOk 31 (self .«prev_island»)) ⌝ }
+        ensures { λ r. ⌜ r ≡ ratioOf self (effectiveOf (d .prev) (d .curr) eps) d curr prev eps ⌝ }
+    {
+        let island = self.island;
+        let prev_island = self.prev_island;
+        let ratio = effective(d.prev, d.curr, eps);
+        let similar = island.is_similar_polarity(prev_island);
+        let faster = faster_twice(d, eps);
+        let equal = prev_island.delta_count == island.delta_count;
+        switch_ratio(ratio, curr.slider, prev.slider, similar, faster, equal)
+    }
+
+    // A switch, where the search for the island among the n entries ended at i, and found stands there.
     pub fn switch_step(
         self,
-        deltas: &mut [i32; 32],
-        delta_counts: &mut [i32; 32],
-        counts: &mut [u32; 32],
-        ratio: f64,
+        i: usize,
+        found: IslandCount,
         d: Deltas,
         curr: Cell,
         prev: Cell,
         decay: f64,
         window: f64,
         eps: f64,
-    ) -> Turn
-        requires { ⌜ Good 31 eps (walkOf self eps (now deltas) (now «delta_counts») (now counts)) ⌝ }
-        ensures { λ r. ⌜ (walkOf (r .state) eps (now (deltas .exit)) (now («delta_counts» .exit)) (now (counts .exit))
-            ≡ switchStep (walkOf self eps (now (deltas .entry)) (now («delta_counts» .entry)) (now (counts .entry))) ratio d curr prev decay window eps)
-            × (r .compared ≡ comparedAt (walkOf self eps (now (deltas .entry)) (now («delta_counts» .entry)) (now (counts .entry)))) ⌝ }
+    ) -> Switch
+        requires { ⌜ (i ≤ self .n) × (self .n < 32) × (IslandOk 31 (self .island)) × (IslandOk 31 (self .«prev_island»)) × (CountOk 31 found) ⌝ }
+        ensures turn { λ r. ⌜ ((es : List IslandCount) → EndsAt es (self .n) (self .island) i found
+            → (walkOf (r .state) (set es (r .place) (r .entry))
+            ≡ switchStep (walkOf self es) (effectiveOf (d .prev) (d .curr) eps) d curr prev decay window eps)
+            × (r .compared ≡ comparedAt (walkOf self es))) ⌝ }
+        ensures within { λ r. ⌜ r .place ≤ self .n ⌝ }
     {
         let n = self.n;
         let island = self.island;
         let prev_island = self.prev_island;
-        let search = island::place_of(deltas, delta_counts, counts, n, island, eps);
-        let i = search.place;
-        let e = island::entry_of(deltas, delta_counts, counts, n, i, island, prev_island, eps);
-        island::put_entry(deltas, delta_counts, counts, i, e);
-        let similar = island.is_similar_polarity(prev_island);
-        let faster = faster_twice(d, eps);
-        let equal = prev_island.delta_count == island.delta_count;
-        let r = switch_ratio(ratio, curr.slider, prev.slider, similar, faster, equal);
+        let search = island::place_of(i, found, n);
+        let place = search.place;
+        let entry = island::entry_of(found, n, place, island, prev_island);
+        let ratio = self.ratio(d, curr, prev, eps);
         let tap_window = osu_difficulty_object::window_of(prev.spinner, window);
         let tap = osu_difficulty_object::tapness(prev.delta_time, curr.delta_time, tap_window);
-        let repeated = i < n;
-        let last = last_ratio(r, repeated, island.delta, e.count, tap);
+        let repeated = place < n;
+        let last = last_ratio(ratio, repeated, island.delta, entry.count, tap);
         let on = !(d.prev + eps < d.curr);
         let state = self.switched(last, repeated, on, decay, num_whole::to_i32(d.curr), eps);
-        Turn {
+        Switch {
             state,
+            place,
+            entry,
             compared: search.compared,
         }
     }
 
-    // By the deltas: the island goes on, another begins, or nothing changes.
-    pub fn step_by(
-        self,
-        deltas: &mut [i32; 32],
-        delta_counts: &mut [i32; 32],
-        counts: &mut [u32; 32],
-        d: Deltas,
-        curr: Cell,
-        prev: Cell,
-        decay: f64,
-        window: f64,
-        eps: f64,
-    ) -> Turn
-        requires { ⌜ Good 31 eps (walkOf self eps (now deltas) (now «delta_counts») (now counts)) ⌝ }
-        ensures { λ r. ⌜ (walkOf (r .state) eps (now (deltas .exit)) (now («delta_counts» .exit)) (now (counts .exit))
-            ≡ stepBy (walkOf self eps (now (deltas .entry)) (now («delta_counts» .entry)) (now (counts .entry))) d curr prev decay window eps)
-            × (r .compared ≡ comparedBy (walkOf self eps (now (deltas .entry)) (now («delta_counts» .entry)) (now (counts .entry))) d eps) ⌝ }
+    // The state after a turn that does not switch: the island goes on, another begins, or nothing changes.
+    pub fn other_step(self, d: Deltas, curr: Cell, prev: Cell, eps: f64) -> Self
+        requires { ⌜ (switchesOf self d eps ≡ false) × (IslandOk 31 (self .island)) ⌝ }
+        ensures { λ r. ⌜ ((es : List IslandCount) (decay window : Float)
+            → walkOf r es ≡ stepBy (walkOf self es) d curr prev decay window eps) ⌝ }
     {
-        let ratio = effective(d.prev, d.curr, eps);
         if self.first_delta_switch {
-            if num_floats::abs(d.prev - d.curr) < eps {
-                let state = self.progressed(num_whole::to_i32(d.curr));
-                return Turn { state, compared: 0 };
-            }
-            return self.switch_step(
-                deltas,
-                delta_counts,
-                counts,
-                ratio,
-                d,
-                curr,
-                prev,
-                decay,
-                window,
-                eps,
-            );
+            return self.progressed(num_whole::to_i32(d.curr));
         }
         if d.prev > d.curr + eps {
+            let ratio = effective(d.prev, d.curr, eps);
             let r = scaled(scaled(ratio, curr.slider, 0.6), prev.slider, 0.6);
-            let state = self.began(r, num_whole::to_i32(d.curr), eps);
-            return Turn { state, compared: 0 };
+            return self.began(r, num_whole::to_i32(d.curr), eps);
         }
-        Turn {
-            state: self,
-            compared: 0,
-        }
-    }
-
-    // A turn of the loop.
-    pub fn step(
-        self,
-        deltas: &mut [i32; 32],
-        delta_counts: &mut [i32; 32],
-        counts: &mut [u32; 32],
-        cells: Trio,
-        decay: f64,
-        window: f64,
-        eps: f64,
-    ) -> Turn
-        requires { ⌜ Good 31 eps (walkOf self eps (now deltas) (now «delta_counts») (now counts)) ⌝ }
-        ensures { λ r. ⌜ (walkOf (r .state) eps (now (deltas .exit)) (now («delta_counts» .exit)) (now (counts .exit))
-            ≡ stepOf (walkOf self eps (now (deltas .entry)) (now («delta_counts» .entry)) (now (counts .entry)))
-            (cells .curr) (cells .prev) (cells .last) decay window eps)
-            × (r .compared ≡ comparedIn (walkOf self eps (now (deltas .entry)) (now («delta_counts» .entry)) (now (counts .entry)))
-            (cells .curr) (cells .prev) (cells .last) eps) ⌝ }
-    {
-        let curr = cells.curr;
-        let prev = cells.prev;
-        let last = cells.last;
-        let d = Deltas {
-            curr: num_floats::max(curr.delta_time, LEAST_DELTA),
-            prev: num_floats::max(prev.delta_time, LEAST_DELTA),
-            last: num_floats::max(last.delta_time, LEAST_DELTA),
-        };
-        self.step_by(
-            deltas,
-            delta_counts,
-            counts,
-            d,
-            curr,
-            prev,
-            decay,
-            window,
-            eps,
-        )
+        self
     }
 }

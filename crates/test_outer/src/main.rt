@@ -1,4 +1,4 @@
-// Lists the values of charts as values_main does, by the outer entries: the records of a chart stand in an array of structs, of which its
+// Lists the values of charts as the lister does but for the totals, by the outer entries: the records of a chart stand in an array of structs, of which its
 // N - 1 records are lent to them as a slice. Standard input has for each chart its length (u32, little-endian) and its bytes. Of a chart
 // that is opened the number of objects is printed, and for each place from 1 on its five values as bits; of any other, and of one with more
 // than 65 objects, the refusal.
