@@ -8,6 +8,7 @@ use std::fmt::Write;
 
 const HEADER: usize = 80;
 const MOST: usize = 60;
+const LARGEST: [usize; 1] = [OBJECT]; // sizes of the objects of the largest charts
 
 struct Random(u64);
 
@@ -271,15 +272,15 @@ impl Round {
         assert!(same_rows(VALUES, &values, &self.values, 1, count(&self.chart)), "values as a fresh opening's");
     }
 
-    /// A round on a chart of as many circles, with room for an object more in buffer and tables.
-    fn of_circles(n: usize, scratch: [Vec<f64>; 4]) -> Self {
-        let mut chart = empty(n, OBJECT, 0, [1.0, 40.0, 50.0, 600.0, 400.0], 0);
+    /// A round on a chart of as many circles of a size, with room for an object more in buffer and tables.
+    fn of_circles(n: usize, size: usize, scratch: [Vec<f64>; 4]) -> Self {
+        let mut chart = empty(n, size, 0, [1.0, 40.0, 50.0, 600.0, 400.0], 0);
         for j in 0..n {
             let (time, x) = (100.0 * j as f64, (j * j % 509) as f32);
-            put(&mut chart, HEADER + OBJECT * j, &[time.to_le_bytes(), time.to_le_bytes()].concat());
-            put(&mut chart, HEADER + OBJECT * j + 16, &x.to_le_bytes());
+            put(&mut chart, HEADER + size * j, &[time.to_le_bytes(), time.to_le_bytes()].concat());
+            put(&mut chart, HEADER + size * j + 16, &x.to_le_bytes());
         }
-        chart.extend([0xA5; OBJECT + 1]);
+        chart.resize(chart.len() + size + 1, 0xA5);
         let (records, values) = (vec![7.0; RECORD * (n + 1)], vec![7.0; VALUES * (n + 1)]);
         Round { chart, records, values, scratch, fresh: false, script: String::new(), answers: String::new() }
     }
@@ -500,7 +501,8 @@ impl Round {
 fn at_the_limit(round: &mut Round) {
     let n = station::MOST;
     round.open_whole();
-    let circle = |round: &Round, place: usize| round.chart[HEADER + OBJECT * place..][..OBJECT].to_vec();
+    let size = object_size(&round.chart);
+    let circle = |round: &Round, place: usize| round.chart[HEADER + size * place..][..size].to_vec();
     for place in [0, n / 2, n - 1] {
         let (o, whole) = (circle(round, place), (round.records.len(), round.values.len()));
         for k in [place, n] {
@@ -537,13 +539,18 @@ fn main() {
         }
         rounds += 1;
     }
-    let mut largest = Round::of_circles(station::MOST, scratch);
-    folder.inspect(|folder| largest.name(folder, rounds));
-    at_the_limit(&mut largest);
-    if let Some(folder) = folder {
+    for (k, size) in LARGEST.into_iter().enumerate() {
+        let mut largest = Round::of_circles(station::MOST, size, scratch);
+        folder.inspect(|folder| largest.name(folder, rounds + k as u64));
+        at_the_limit(&mut largest);
+        scratch = std::mem::take(&mut largest.scratch);
         let (calls, told) = largest.told();
-        std::fs::write(format!("{folder}/scripts"), script + &calls).unwrap();
-        std::fs::write(format!("{folder}/answers"), answers + &told).unwrap();
+        script += &calls;
+        answers += &told;
+    }
+    if let Some(folder) = folder {
+        std::fs::write(format!("{folder}/scripts"), script).unwrap();
+        std::fs::write(format!("{folder}/answers"), answers).unwrap();
     }
     let [open, replace, insert, remove, record, value, totals] = counts.calls;
     println!("seed {seed}: {rounds} charts; open {open}, replace {replace}, insert {insert}, remove {remove}, read record {record}, read values {value}, totals {totals}");
