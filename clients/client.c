@@ -9,7 +9,7 @@
 
 struct station {
     uint8_t *chart;
-    size_t length, objects;
+    size_t length, objects, object_size;
     double *records, *values, *scratch[4];
     size_t records_length, values_length;
 };
@@ -20,17 +20,18 @@ static void *claim(size_t count, size_t size) {
     return p;
 }
 
-/* The file, in a buffer with room for one object more. */
-static uint8_t *read_file(const char *name, size_t *length) {
+/* The file, in a buffer with room for one object more, and the bytes of an object. */
+static uint8_t *read_file(const char *name, size_t *length, size_t *object_size) {
     FILE *f = fopen(name, "rb");
     if (!f) { perror(name); exit(1); }
     fseek(f, 0, SEEK_END);
     *length = (size_t)ftell(f);
     rewind(f);
-    uint8_t *bytes = claim(*length + DIFFICULTY_OBJECT, 1);
+    uint8_t *bytes = claim(*length + DIFFICULTY_STATED_OBJECT, 1);
     if (fread(bytes, 1, *length, f) != *length) { perror(name); exit(1); }
     fclose(f);
-    *length += DIFFICULTY_OBJECT;
+    *object_size = difficulty_object_size(bytes, *length);
+    *length += *object_size;
     return bytes;
 }
 
@@ -54,7 +55,7 @@ static uint64_t replace(struct station *s, size_t place, const uint8_t *object, 
 }
 
 static uint64_t insert(struct station *s, size_t place, const uint8_t *object) {
-    return difficulty_guarded_insert(s->chart, s->length, place, object, DIFFICULTY_OBJECT, s->records, s->records_length, s->values, s->values_length);
+    return difficulty_guarded_insert(s->chart, s->length, place, object, s->object_size, s->records, s->records_length, s->values, s->values_length);
 }
 
 static uint64_t take_out(struct station *s, size_t place) {
@@ -77,13 +78,13 @@ static void show(struct station *s, size_t place) {
 /* Moves the object to and fro. Every tenth step drops it outside the field (3), every seventeenth past the last place (8), every
  * twenty-third is cut short (3 at its place). */
 static void drag(struct station *s, size_t place) {
-    uint8_t object[DIFFICULTY_OBJECT];
+    uint8_t object[DIFFICULTY_STATED_OBJECT];
     unsigned answers[10] = {0};
-    memcpy(object, s->chart + 80 + DIFFICULTY_OBJECT * place, DIFFICULTY_OBJECT);
+    memcpy(object, s->chart + 80 + s->object_size * place, s->object_size);
     for (int step = 0; step < 1000; step++) {
         float x = step % 10 == 9 ? 200000.0f : 100.0f + (float)(step % 40 < 20 ? step % 20 : 20 - step % 20);
         memcpy(object + 16, &x, 4);
-        uint64_t answer = replace(s, step % 17 == 16 ? s->objects : place, object, step % 23 == 22 ? 40 : DIFFICULTY_OBJECT);
+        uint64_t answer = replace(s, step % 17 == 16 ? s->objects : place, object, step % 23 == 22 ? 40 : s->object_size);
         answers[difficulty_number(answer)]++;
         if (step % 250 == 0) show(s, place);
     }
@@ -94,8 +95,8 @@ static void drag(struct station *s, size_t place) {
 
 /* Puts a copy of the object in before it; a second finds no room for another (9). Then the first object of the chart goes out, the copy, and one past the last (8). */
 static void put_in_and_take_out(struct station *s, size_t place) {
-    uint8_t object[DIFFICULTY_OBJECT];
-    memcpy(object, s->chart + 80 + DIFFICULTY_OBJECT * place, DIFFICULTY_OBJECT);
+    uint8_t object[DIFFICULTY_STATED_OBJECT];
+    memcpy(object, s->chart + 80 + s->object_size * place, s->object_size);
     print_answer("insertion", insert(s, place, object));
     show(s, place);
     print_answer("insertion", insert(s, place, object));
@@ -109,7 +110,7 @@ static void put_in_and_take_out(struct station *s, size_t place) {
 int main(int count, char **arguments) {
     if (count != 2) { fputs("usage: client CHART\n", stderr); return 2; }
     struct station s = {0};
-    s.chart = read_file(arguments[1], &s.length);
+    s.chart = read_file(arguments[1], &s.length, &s.object_size);
     uint32_t n = 0;
     if (s.length >= 4) n = s.chart[0] | (uint32_t)s.chart[1] << 8 | (uint32_t)s.chart[2] << 16 | (uint32_t)s.chart[3] << 24;
     s.objects = n <= DIFFICULTY_MOST ? n : 0;

@@ -1,7 +1,7 @@
 //! Opens a chart, drags one of its objects a thousand times, puts one in and takes two out, and prints what a station would show. client.c does the same.
 //! Every call is guarded: it gives the same bits whatever rounding, flushing or traps a host has set.
 mod station;
-use station::{guarded, Answer, MOST, OBJECT, RECORD, SCRATCH, TOTALS, VALUES};
+use station::{guarded, object_size, Answer, MOST, RECORD, SCRATCH, TOTALS, VALUES};
 
 struct Station {
     chart: Vec<u8>,
@@ -42,18 +42,22 @@ impl Station {
         }
     }
 
+    fn object(&self, place: usize) -> Vec<u8> {
+        let size = object_size(&self.chart);
+        self.chart[80 + size * place..][..size].to_vec()
+    }
+
     /// Moves the object to and fro. Every tenth step drops it outside the field (3), every seventeenth past the last place (8), every
     /// twenty-third is cut short (3 at its place).
     fn drag(&mut self, place: usize) {
-        let at = 80 + OBJECT * place;
-        let mut object = self.chart[at..at + OBJECT].to_vec();
+        let mut object = self.object(place);
         let mut answers = [0; 10];
         for step in 0..1000usize {
             let to_and_fro = if step % 40 < 20 { step % 20 } else { 20 - step % 20 };
             let x = if step % 10 == 9 { 200000.0 } else { 100.0 + to_and_fro as f32 };
             object[16..20].copy_from_slice(&x.to_le_bytes());
             let to = if step % 17 == 16 { self.objects } else { place };
-            let length = if step % 23 == 22 { 40 } else { OBJECT };
+            let length = if step % 23 == 22 { 40 } else { object.len() };
             let answer = guarded(|| station::replace(&mut self.chart, to, &object[..length], &mut self.records, &mut self.values));
             answers[answer.map_or_else(|r| r.number as usize, |()| 0)] += 1;
             if step % 250 == 0 {
@@ -75,8 +79,7 @@ impl Station {
 
     /// Puts a copy of the object in before it; a second finds no room for another (9). Then the first object of the chart goes out, the copy, and one past the last (8).
     fn put_in_and_take_out(&mut self, place: usize) {
-        let at = 80 + OBJECT * place;
-        let object = self.chart[at..at + OBJECT].to_vec();
+        let object = self.object(place);
         self.insert(place, &object);
         self.show(place);
         self.insert(place, &object);
@@ -91,7 +94,7 @@ impl Station {
 fn main() {
     let name = std::env::args().nth(1).expect("usage: client CHART");
     let mut chart = std::fs::read(name).expect("the chart can be read");
-    chart.resize(chart.len() + OBJECT, 0); // a buffer with room for one object more
+    chart.resize(chart.len() + object_size(&chart), 0); // a buffer with room for one object more
     let n = chart.get(..4).map_or(0, |b| u32::from_le_bytes(b.try_into().unwrap()) as usize);
     let objects = if n <= MOST { n } else { 0 };
     let mut s = Station {

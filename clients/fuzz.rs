@@ -2,12 +2,13 @@
 //!     fuzz SEED CALLS [FOLDER]
 //! With a folder, the charts, the calls and the answers are written there, for tools/fuzz_compare.py.
 mod station;
-use station::{Answer, Refusal, OBJECT, RECORD, SCRATCH, TOTALS, VALUES};
+use station::{object_size, Answer, Refusal, OBJECT, RECORD, SCRATCH, STATED_OBJECT, TOTALS, VALUES};
 use std::cmp::{max, min};
 use std::fmt::Write;
 
 const HEADER: usize = 80;
 const MOST: usize = 60;
+const LARGEST: [usize; 1] = [OBJECT]; // sizes of the objects of the largest charts
 
 struct Random(u64);
 
@@ -43,9 +44,9 @@ fn count(chart: &[u8]) -> usize {
     chart.get(..4).map_or(0, |b| u32::from_le_bytes(b.try_into().unwrap()) as usize)
 }
 
-/// The 56 bytes of an object that starts at a time; a slider uses the two nested entries and the two points of its place.
-fn object(r: &mut Random, place: usize, time: f64) -> Vec<u8> {
-    let mut o = vec![0; OBJECT];
+/// An object of so many bytes that starts at a time; a slider uses the two nested entries and the two points of its place.
+fn object(r: &mut Random, place: usize, time: f64, size: usize) -> Vec<u8> {
+    let mut o = vec![0; size];
     let kind = [0u32, 0, 1, 2][r.below(4)];
     put(&mut o, 0, &time.to_le_bytes());
     put(&mut o, 8, &(time + [0.0, 60.0, 500.0][kind as usize]).to_le_bytes());
@@ -56,16 +57,20 @@ fn object(r: &mut Random, place: usize, time: f64) -> Vec<u8> {
         for (k, v) in [1 + r.below(3), 2 * place, 2, 2 * place, 2].into_iter().enumerate() {
             put(&mut o, 36 + 4 * k, &(v as u32).to_le_bytes());
         }
+        // its stated length, where objects have one
+        let length = [0.0, -0.0, 5e-324, 20.0, r.below(300) as f64, r.below(300) as f64, 1e6][r.below(7)];
+        put(&mut o, OBJECT, &length.to_le_bytes());
     }
     o
 }
 
-/// A chart of n objects of no bytes, and as many nested entries and points.
-fn empty(n: usize, entries: usize, settings: [f64; 5], flags: u32) -> Vec<u8> {
-    let (nested_at, points_at) = (HEADER + OBJECT * n, HEADER + OBJECT * n + 24 * entries);
+/// A chart of n objects of no contents, each of so many bytes, and as many nested entries and points.
+fn empty(n: usize, size: usize, entries: usize, settings: [f64; 5], flags: u32) -> Vec<u8> {
+    let (nested_at, points_at) = (HEADER + size * n, HEADER + size * n + 24 * entries);
     let end = points_at + 16 * entries;
     let mut s = vec![0; end];
-    for (k, v) in [n, entries, entries, HEADER, nested_at, points_at, end].into_iter().enumerate() {
+    let stated = (size == STATED_OBJECT) as usize;
+    for (k, v) in [n, entries, entries, HEADER, nested_at, points_at, end, stated].into_iter().enumerate() {
         put(&mut s, 4 * k, &(v as u32).to_le_bytes());
     }
     for (k, v) in settings.into_iter().enumerate() {
@@ -76,17 +81,17 @@ fn empty(n: usize, entries: usize, settings: [f64; 5], flags: u32) -> Vec<u8> {
     s
 }
 
-/// A chart that opens.
+/// A chart that opens, with stated lengths or without.
 fn chart(r: &mut Random) -> Vec<u8> {
     let most = [3, 12, 12, MOST][r.below(4)];
-    let n = r.below(most);
-    let (nested_at, points_at) = (HEADER + OBJECT * n, HEADER + (OBJECT + 48) * n);
+    let (n, size) = (r.below(most), [OBJECT, STATED_OBJECT][r.below(2)]);
+    let (nested_at, points_at) = (HEADER + size * n, HEADER + (size + 48) * n);
     let clock = [1.0, 1.5, 0.75][r.below(3)];
-    let mut s = empty(n, 2 * n, [clock, 40.0, 50.0, 600.0, 400.0], r.below(4) as u32);
+    let mut s = empty(n, size, 2 * n, [clock, 40.0, 50.0, 600.0, 400.0], r.below(4) as u32);
     let mut time = 1000.0f64;
     for j in 0..n {
-        let o = object(r, j, time);
-        put(&mut s, HEADER + OBJECT * j, &o);
+        let o = object(r, j, time, size);
+        put(&mut s, HEADER + size * j, &o);
         for (k, kind) in [r.below(2) as u32, 2].into_iter().enumerate() {
             let at = nested_at + 24 * (2 * j + k);
             put(&mut s, at, &(time + 30.0 * (k + 1) as f64).to_le_bytes());
@@ -116,13 +121,14 @@ impl Windows {
 /// The buffer with an object put in at a place, or the object there taken out; the bytes behind the chart's new end are as they were.
 fn edited(buffer: &[u8], place: usize, object: Option<&[u8]>) -> Vec<u8> {
     let word = |at: usize| u32::from_le_bytes(buffer[at..at + 4].try_into().unwrap());
-    let (at, end) = (HEADER + OBJECT * place, word(24) as usize);
+    let size = object_size(buffer);
+    let (at, end) = (HEADER + size * place, word(24) as usize);
     let mut new = buffer[..at].to_vec();
     match object {
         Some(object) => new.extend([object, &buffer[at..end]].concat()),
-        None => new.extend(&buffer[at + OBJECT..end]),
+        None => new.extend(&buffer[at + size..end]),
     }
-    for (k, by) in [(0, 1), (16, OBJECT as u32), (20, OBJECT as u32), (24, OBJECT as u32)] {
+    for (k, by) in [(0, 1), (16, size as u32), (20, size as u32), (24, size as u32)] {
         let other = if object.is_some() { word(k) + by } else { word(k) - by };
         put(&mut new, k, &other.to_le_bytes());
     }
@@ -132,13 +138,14 @@ fn edited(buffer: &[u8], place: usize, object: Option<&[u8]>) -> Vec<u8> {
 
 /// One piece of damage; none changes the length of the chart.
 fn damage(r: &mut Random, s: &mut [u8]) -> (usize, Vec<u8>) {
-    let n = count(s).min(MOST);
-    let (at, field) = match r.below(12) {
+    let (n, size) = (count(s).min(MOST), object_size(s));
+    let (at, field) = match r.below(13) {
         0 => (4 * r.below(20), (r.below(90_000) as u32).to_le_bytes().to_vec()),
         1 => (32 + 8 * r.below(5), r.wild().to_le_bytes().to_vec()),
-        2 | 3 => (HEADER + OBJECT * r.below(n + 1) + 8 * r.below(2), r.wild().to_le_bytes().to_vec()),
-        4..=6 => (HEADER + OBJECT * r.below(n + 1) + 32 + 4 * r.below(6), (r.below(1100) as u32).to_le_bytes().to_vec()),
-        7..=10 => (HEADER + OBJECT * n + 4 * r.below(20 * n + 1), (r.wild() as f32).to_le_bytes().to_vec()),
+        2 | 3 => (HEADER + size * r.below(n + 1) + 8 * r.below(2), r.wild().to_le_bytes().to_vec()),
+        4..=6 => (HEADER + size * r.below(n + 1) + 32 + 4 * r.below(6), (r.below(1100) as u32).to_le_bytes().to_vec()),
+        7..=10 => (HEADER + size * n + 4 * r.below(20 * n + 1), (r.wild() as f32).to_le_bytes().to_vec()),
+        11 => (HEADER + size * r.below(n + 1) + OBJECT, r.wild().to_le_bytes().to_vec()),
         _ => (r.below(s.len() + 1), vec![r.word() as u8]),
     };
     let field = if at + field.len() <= s.len() { field } else { vec![] };
@@ -157,7 +164,8 @@ fn any_chart(r: &mut Random) -> Vec<u8> {
         _ if r.one_in(2) => s.resize(r.below(s.len() + 40), 7),
         _ => s = (0..r.below(400)).map(|_| r.word() as u8).collect(),
     }
-    let behind = [0, 0, 1, 55, 56, 57, 112, 280][r.below(8)];
+    let size = object_size(&s);
+    let behind = [0, 0, 1, size - 1, size, size + 1, 2 * size, 5 * size][r.below(8)];
     s.extend((0..behind).map(|_| r.word() as u8));
     s
 }
@@ -264,15 +272,15 @@ impl Round {
         assert!(same_rows(VALUES, &values, &self.values, 1, count(&self.chart)), "values as a fresh opening's");
     }
 
-    /// A round on a chart of as many circles, with room for an object more in buffer and tables.
-    fn of_circles(n: usize, scratch: [Vec<f64>; 4]) -> Self {
-        let mut chart = empty(n, 0, [1.0, 40.0, 50.0, 600.0, 400.0], 0);
+    /// A round on a chart of as many circles of a size, with room for an object more in buffer and tables.
+    fn of_circles(n: usize, size: usize, scratch: [Vec<f64>; 4]) -> Self {
+        let mut chart = empty(n, size, 0, [1.0, 40.0, 50.0, 600.0, 400.0], 0);
         for j in 0..n {
             let (time, x) = (100.0 * j as f64, (j * j % 509) as f32);
-            put(&mut chart, HEADER + OBJECT * j, &[time.to_le_bytes(), time.to_le_bytes()].concat());
-            put(&mut chart, HEADER + OBJECT * j + 16, &x.to_le_bytes());
+            put(&mut chart, HEADER + size * j, &[time.to_le_bytes(), time.to_le_bytes()].concat());
+            put(&mut chart, HEADER + size * j + 16, &x.to_le_bytes());
         }
-        chart.extend([0xA5; OBJECT + 1]);
+        chart.resize(chart.len() + size + 1, 0xA5);
         let (records, values) = (vec![7.0; RECORD * (n + 1)], vec![7.0; VALUES * (n + 1)]);
         Round { chart, records, values, scratch, fresh: false, script: String::new(), answers: String::new() }
     }
@@ -316,18 +324,19 @@ impl Round {
     }
 
     fn new_object(&self, r: &mut Random, place: usize) -> Vec<u8> {
-        let n = count(&self.chart).min(MOST);
-        let at = HEADER + OBJECT * place.min(n);
+        let (n, size) = (count(&self.chart).min(MOST), object_size(&self.chart));
+        let at = HEADER + size * place.min(n);
         let old = self.chart.get(at..at.saturating_add(8)).map_or(0.0, |b| f64::from_le_bytes(b.try_into().unwrap()));
         let entries = self.chart.get(4..8).map_or(0, |b| u32::from_le_bytes(b.try_into().unwrap()) as usize);
         let near = min(place, min(max(n, 1), max(entries / 2, 1)) - 1);
         let time = if r.one_in(6) { old + [40.0, 900.0, 4e6, -300.0][r.below(4)] } else { old };
-        let mut o = object(r, near, time);
-        match r.below(8) {
+        let mut o = object(r, near, time, size);
+        match r.below(9) {
             0 => put(&mut o, 8 * r.below(2), &r.wild().to_le_bytes()),
             1 => put(&mut o, 16 + 4 * r.below(10), &(r.word() as u32).to_le_bytes()),
-            2 => o.truncate(r.below(60)),
-            3 => o.resize(56 + r.below(9), 0),
+            2 => o.truncate(r.below(size + 4)),
+            3 => o.resize(OBJECT + r.below(17), 0),
+            4 if size == STATED_OBJECT => put(&mut o, OBJECT, &r.wild().to_le_bytes()),
             _ => {}
         }
         o
@@ -346,7 +355,7 @@ impl Round {
         let (mut chart, records, values) = (self.chart.clone(), self.records.clone(), self.values.clone());
         let answer = station::replace(&mut self.chart, place, &o, &mut self.records[..rl], &mut self.values[..vl]);
         if answer.is_ok() {
-            put(&mut chart, HEADER + OBJECT * place, &o);
+            put(&mut chart, HEADER + object_size(&self.chart) * place, &o);
             let end = usize::MAX / 64;
             assert!(same_rows(RECORD, &records, &self.records, 0, place.max(1)) && same_rows(RECORD, &records, &self.records, place + 3, end));
             assert!(same_rows(VALUES, &values, &self.values, 0, place.max(2) - 1) && same_rows(VALUES, &values, &self.values, place + 34, end));
@@ -492,7 +501,8 @@ impl Round {
 fn at_the_limit(round: &mut Round) {
     let n = station::MOST;
     round.open_whole();
-    let circle = |round: &Round, place: usize| round.chart[HEADER + OBJECT * place..][..OBJECT].to_vec();
+    let size = object_size(&round.chart);
+    let circle = |round: &Round, place: usize| round.chart[HEADER + size * place..][..size].to_vec();
     for place in [0, n / 2, n - 1] {
         let (o, whole) = (circle(round, place), (round.records.len(), round.values.len()));
         for k in [place, n] {
@@ -529,13 +539,18 @@ fn main() {
         }
         rounds += 1;
     }
-    let mut largest = Round::of_circles(station::MOST, scratch);
-    folder.inspect(|folder| largest.name(folder, rounds));
-    at_the_limit(&mut largest);
-    if let Some(folder) = folder {
+    for (k, size) in LARGEST.into_iter().enumerate() {
+        let mut largest = Round::of_circles(station::MOST, size, scratch);
+        folder.inspect(|folder| largest.name(folder, rounds + k as u64));
+        at_the_limit(&mut largest);
+        scratch = std::mem::take(&mut largest.scratch);
         let (calls, told) = largest.told();
-        std::fs::write(format!("{folder}/scripts"), script + &calls).unwrap();
-        std::fs::write(format!("{folder}/answers"), answers + &told).unwrap();
+        script += &calls;
+        answers += &told;
+    }
+    if let Some(folder) = folder {
+        std::fs::write(format!("{folder}/scripts"), script).unwrap();
+        std::fs::write(format!("{folder}/answers"), answers).unwrap();
     }
     let [open, replace, insert, remove, record, value, totals] = counts.calls;
     println!("seed {seed}: {rounds} charts; open {open}, replace {replace}, insert {insert}, remove {remove}, read record {record}, read values {value}, totals {totals}");

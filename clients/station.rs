@@ -1,7 +1,9 @@
 //! The library's calls for a program in Rust: what include/station.h says of them in C holds here too.
 #![allow(dead_code)]
 
+/// Bytes of an object in a chart without stated lengths, and in one with them.
 pub const OBJECT: usize = 56;
+pub const STATED_OBJECT: usize = 64;
 pub const MOST: usize = 16384;
 pub const RECORD: usize = 16;
 pub const VALUES: usize = 5;
@@ -52,6 +54,11 @@ pub fn guarded<T>(call: impl FnOnce() -> T) -> T {
         fesetenv(DEFAULT);
     }
     call()
+}
+
+/// Bytes of an object of this chart, by its word at 28; a chart with any other word than 0 and 1 is refused by every call.
+pub fn object_size(chart: &[u8]) -> usize {
+    if chart.get(28..32) == Some(&[1, 0, 0, 0]) { STATED_OBJECT } else { OBJECT }
 }
 
 /// A refusal, or what was carried out.

@@ -15,8 +15,8 @@
  *   1 header wrong, or a length field above the buffer's length   6 the chart is too long in time
  *   2 a setting outside its range                                 7 a table, scratch or out is too short
  *   3 an object's own fields wrong                                8 no such place
- *   4 a slider's nested entries or points wrong                   9 no room for another object: the buffer has fewer than 56 bytes behind the
- *   5 an object that starts before the one before it                chart, or N is 16,384
+ *   4 a slider's nested entries or points wrong                   9 no room for another object: the buffer has fewer bytes behind the chart than
+ *   5 an object that starts before the one before it                an object has, or N is 16,384
  * 3, 4 and 5 have the lowest offending place, the others place 0.
  *
  * What is proved begins behind this header. Trusted of the caller, as of any caller in C:
@@ -42,17 +42,25 @@ extern "C" {
 #endif
 
 enum {
-    DIFFICULTY_OBJECT = 56,    /* bytes of an object in the chart */
-    DIFFICULTY_MOST = 16384,   /* objects of a chart at most */
-    DIFFICULTY_RECORD = 16,    /* numbers of a record */
-    DIFFICULTY_VALUES = 5,     /* values of a place */
-    DIFFICULTY_TOTALS = 4,     /* totals of a chart */
-    DIFFICULTY_SCRATCH = 8192  /* numbers of scratch for each total */
+    DIFFICULTY_OBJECT = 56,         /* bytes of an object in a chart without stated lengths, whose word at 28 is 0 */
+    DIFFICULTY_STATED_OBJECT = 64,  /* bytes of an object in a chart with stated lengths, whose word at 28 is 1 */
+    DIFFICULTY_MOST = 16384,        /* objects of a chart at most */
+    DIFFICULTY_RECORD = 16,         /* numbers of a record */
+    DIFFICULTY_VALUES = 5,          /* values of a place */
+    DIFFICULTY_TOTALS = 4,          /* totals of a chart */
+    DIFFICULTY_SCRATCH = 8192       /* numbers of scratch for each total */
 };
 
 /* The number (1 to 9) and the place of a refusal; the number of 0 is 0. */
 static inline unsigned difficulty_number(uint64_t answer) { return (unsigned)(answer >> 32); }
 static inline uint32_t difficulty_place(uint64_t answer) { return (uint32_t)answer; }
+
+/* Bytes of an object of this chart, by its word at 28; no edit changes that. Where the word is neither 0 nor 1, or the buffer has no header, every call
+ * refuses the chart (1). */
+static inline size_t difficulty_object_size(const uint8_t *chart, size_t chart_length) {
+    int stated = chart_length >= 32 && chart[28] == 1 && !chart[29] && !chart[30] && !chart[31];
+    return stated ? DIFFICULTY_STATED_OBJECT : DIFFICULTY_OBJECT;
+}
 
 /* Checks a chart and fills its tables.
  * Conditions 1 to 7. Writes entries 1 to N - 1 of records and values. */
@@ -60,17 +68,17 @@ uint64_t difficulty_open(const uint8_t *chart, size_t chart_length,
                          double *records, size_t records_length,
                          double *values, size_t values_length);
 
-/* Puts an object of DIFFICULTY_OBJECT bytes at a place (0 to N - 1) of the chart, and brings up to date the entries that it can change.
+/* Puts an object of difficulty_object_size bytes at a place (0 to N - 1) of the chart, and brings up to date the entries that it can change.
  * Conditions 1 to 7 for the chart as it is, 8, then 3 to 6 for the chart as it would become; an object of another length is 3 at that place.
- * Writes the 56 bytes of that object in the chart, records place to place + 2 and values place - 1 to place + 33, as far as they lie in 1 to N - 1.
+ * Writes the bytes of that object in the chart, records place to place + 2 and values place - 1 to place + 33, as far as they lie in 1 to N - 1.
  * The tables must be those that difficulty_open filled for this chart, or they hold afterwards what follows from what they held. */
 uint64_t difficulty_replace(uint8_t *chart, size_t chart_length, size_t place,
                             const uint8_t *object, size_t object_length,
                             double *records, size_t records_length,
                             double *values, size_t values_length);
 
-/* Puts an object of DIFFICULTY_OBJECT bytes in before the object at a place, or behind the last for place N: objects from there on, nested entries and points
- * move up by 56 bytes in the buffer, and count, offsets and length in the header follow. A slider uses nested entries and points that are there already.
+/* Puts an object of difficulty_object_size bytes in before the object at a place, or behind the last for place N: objects from there on, nested entries and
+ * points move up by as many bytes in the buffer, and count, offsets and length in the header follow. A slider uses nested entries and points that are there already.
  * Conditions 1 to 6 for the chart as it is, 7 where a table has fewer than N + 1 entries, 8 where the place is above N, 9; an object of another length is 3 at
  * that place; then 3 to 6 for the chart as it would become, with the places of that chart.
  * Writes the header's counts, offsets and length and the chart from that object on; in the tables the entries of objects behind it, which move one place up,
@@ -81,8 +89,8 @@ uint64_t difficulty_insert(uint8_t *chart, size_t chart_length, size_t place,
                            double *records, size_t records_length,
                            double *values, size_t values_length);
 
-/* Takes the object at a place (0 to N - 1) out: what lies behind it in the chart moves down by 56 bytes, and count, offsets and length follow. The last
- * 56 bytes of the old chart then lie behind the new one, as they were.
+/* Takes the object at a place (0 to N - 1) out: what lies behind it in the chart moves down by the bytes of an object, and count, offsets and length follow.
+ * The last bytes of the old chart, as many, then lie behind the new one, as they were.
  * Conditions 1 to 7, 8; 3 to 6 for the chart as it would become are never met.
  * Writes the header's counts, offsets and length and the chart from that place on; in the tables the entries of objects behind it, which move one place down,
  * records place to place + 1 (to 2 for place 0) and values place - 1 to place + 32, as far as they lie in 1 to N - 2, the places of the new chart. Entry N - 1

@@ -22,11 +22,13 @@ import sys
 # Every field is kept as the whole number that its bits make, so that no pattern is lost.
 HEADER, SETTINGS = struct.Struct("<8I"), struct.Struct("<5Q2I")
 OBJECT, NESTED, POINT = struct.Struct("<2Q10I"), struct.Struct("<Q4I"), struct.Struct("<2IQ")
+STATED_OBJECT = struct.Struct("<2Q10IQ")  # an object with a stated length, as the word at 28 says
 FRONT = HEADER.size + SETTINGS.size
 KINDS, CIRCLE, SLIDER, SPINNER = ("circle", "slider", "spinner"), 0, 1, 2
 ENTRIES, TAIL = ("tick", "repeat", "tail"), 2
 WORDS = ("objects", "nested", "points", "objects-at", "nested-at", "points-at", "length", "reserved")
 FLAGS = ("hidden", "autopilot")
+STATED = "lengths stated"  # the line of a chart whose objects have a stated length, where no object shows one
 # name, width, unit, lowest and highest
 RANGES = (("clock-rate", 64, "", 0.25, 4), ("radius", 64, "px", 1, 200), ("hit-window", 64, "ms", 1, 400), ("preempt", 64, "ms", 1, 10_000),
           ("fade-in", 64, "ms", 1, 10_000), ("factor", 32, "", 0.25, 50))
@@ -39,11 +41,12 @@ class TextError(Exception):
 
 
 class Chart:
-    """The fields of a chart; `header` has the words that are not as the tables make them, `rest` the bytes behind the tables."""
+    """The fields of a chart; `header` has the words that are not as the tables make them, `rest` the bytes behind the tables. An object's last
+    field is its stated length; where `stated` is not set it is 0 and the bytes don't have it."""
 
     def __init__(self):
         self.settings, self.objects, self.nested, self.points = None, [], [], []
-        self.header, self.rest = {}, b""
+        self.header, self.rest, self.stated = {}, b"", False
 
 
 # ---------------------------------------------------------------- numbers
@@ -97,13 +100,25 @@ def read_word(text):
 
 # ---------------------------------------------------------------- bytes
 
+def object_form(word):
+    """How an object is laid out where the word at 28 is this one; those of a wrong word are taken as the old ones."""
+    return STATED_OBJECT if word == 1 else OBJECT
+
+
+def object_size(b):
+    """Bytes of an object of a chart."""
+    return object_form(HEADER.unpack_from(b)[7] if len(b) >= HEADER.size else 0).size
+
+
 def pack(c):
     """The bytes of a chart."""
-    sizes = (80, 56 * len(c.objects), 24 * len(c.nested), 16 * len(c.points))
-    words = [len(c.objects), len(c.nested), len(c.points)] + [sum(sizes[:k]) for k in (1, 2, 3, 4)] + [0]
+    form = object_form(c.stated)
+    sizes = (FRONT, form.size * len(c.objects), NESTED.size * len(c.nested), POINT.size * len(c.points))
+    words = [len(c.objects), len(c.nested), len(c.points)] + [sum(sizes[:k]) for k in (1, 2, 3, 4)] + [int(c.stated)]
     for name, word in c.header.items():
         words[WORDS.index(name)] = word
-    tables = [OBJECT.pack(*o) for o in c.objects] + [NESTED.pack(*e) for e in c.nested] + [POINT.pack(*p) for p in c.points]
+    objects = [form.pack(*(o if c.stated else o[:12])) for o in c.objects]
+    tables = objects + [NESTED.pack(*e) for e in c.nested] + [POINT.pack(*p) for p in c.points]
     return HEADER.pack(*words) + SETTINGS.pack(*c.settings) + b"".join(tables) + c.rest
 
 
@@ -112,11 +127,13 @@ def unpack(b):
     c, at, whole = Chart(), FRONT, True
     words = HEADER.unpack_from(b)
     c.settings = list(SETTINGS.unpack_from(b, HEADER.size))
-    for form, table, count in ((OBJECT, c.objects, words[0]), (NESTED, c.nested, words[1]), (POINT, c.points, words[2])):
+    c.stated = words[7] == 1
+    for form, table, count in ((object_form(words[7]), c.objects, words[0]), (NESTED, c.nested, words[1]), (POINT, c.points, words[2])):
         fits = min(count, (len(b) - at) // form.size) if whole else 0
         table += [form.unpack_from(b, at + form.size * i) for i in range(fits)]
         at += form.size * fits
         whole = whole and fits == count
+    c.objects = [(*o, 0)[:13] for o in c.objects]
     c.rest = b[at:]
     made = HEADER.unpack_from(pack(c))
     c.header = {name: word for name, word, other in zip(WORDS, words, made) if word != other}
@@ -157,7 +174,7 @@ class Table:
 
 
 def object_lines(o, tables):
-    start, end, x, y, sx, sy, kind, spans, *ranges = o
+    start, end, x, y, sx, sy, kind, spans, *ranges, length = o
     line = (KINDS[kind] if kind < 3 else f"object kind {kind}") + f" at {show(start, 64)}"
     line += "" if kind == CIRCLE and end == start else f" to {show(end, 64)}"
     line += f" x {show(x, 32)} y {show(y, 32)}" + (f" stack {show(sx, 32)} {show(sy, 32)}" if sx or sy else "")
@@ -170,7 +187,7 @@ def object_lines(o, tables):
             under += taken[1]
         elif kind == SLIDER or first or count:
             line += f" {name} {first} {count}"
-    return before + [line] + under
+    return before + [line + (f" length {show(length, 64)}" if length else "")] + under
 
 
 def flag_words(flags):
@@ -188,7 +205,8 @@ def to_text(b):
         return "\n".join(bytes_lines(b) or ["bytes"]) + "\n"
     c = unpack(b)
     lines = [f"{name} {show(bits, width)} {unit}".rstrip() for (name, width, unit, *_), bits in zip(RANGES, c.settings)]
-    lines += ["flags " + flag_words(c.settings[6])] + [f"header {name} {word}" for name, word in c.header.items()] + [""]
+    lines += ["flags " + flag_words(c.settings[6])] + [STATED] * (c.stated and not any(o[12] for o in c.objects))
+    lines += [f"header {name} {word}" for name, word in c.header.items()] + [""]
     sliders = [o for o in c.objects if o[6] == SLIDER]
     tables = {"nested": Table(c.nested, entry_line, [o[8:10] for o in sliders]), "points": Table(c.points, point_line, [o[10:12] for o in sliders])}
     for o in c.objects:
@@ -244,6 +262,8 @@ class Reader:
             self.take_setting(head, rest)
         elif head == "flags":
             self.take_flags(rest)
+        elif head == STATED.split()[0]:
+            self.take_lengths(rest)
         elif head == "header":
             self.take_header(rest)
         elif head in KINDS or head == "object":
@@ -272,6 +292,11 @@ class Reader:
         for word in words if words != ["none"] else []:
             self.flags |= 1 << FLAGS.index(word) if word in FLAGS else read_word(word)
 
+    def take_lengths(self, words):
+        if words != STATED.split()[1:]:
+            raise TextError("lengths takes the word stated")
+        self.chart.stated = True
+
     def take_header(self, words):
         if len(words) != 2 or words[0] not in WORDS:
             raise TextError(f"header takes a name and a whole number; the names are {', '.join(WORDS)}")
@@ -279,13 +304,15 @@ class Reader:
 
     def take_object(self, name, words):
         needed = {"circle": [], "object": ["to", "kind"]}.get(name, ["to"])
-        k = read_keys(words, ["at", "x", "y"] + needed, ["stack", "spans", "nested", "points"] + (["to"] if name == "circle" else []))
+        k = read_keys(words, ["at", "x", "y"] + needed, ["stack", "spans", "nested", "points", "length"] + (["to"] if name == "circle" else []))
         kind = KINDS.index(name) if name in KINDS else k["kind"][0]
         slider = kind == SLIDER
         self.own = {key for key in ("nested", "points") if key in k}
         nested = k.get("nested", [len(self.chart.nested), 0] if slider else [0, 0])
         points = k.get("points", [len(self.chart.points), 0] if slider else [0, 0])
-        self.open = [*k["at"], *k.get("to", k["at"]), *k["x"], *k["y"], *k.get("stack", [0, 0]), kind, *k.get("spans", [int(slider)]), *nested, *points]
+        self.open = [*k["at"], *k.get("to", k["at"]), *k["x"], *k["y"], *k.get("stack", [0, 0]), kind, *k.get("spans", [int(slider)]), *nested, *points,
+                     *k.get("length", [0])]
+        self.chart.stated |= "length" in k
         self.chart.objects.append(self.open)
         if not slider:
             self.open = None
@@ -380,16 +407,16 @@ def header_fault(b):
     for name, what, most in (("objects", "objects", 16_384), ("nested", "nested entries", 65_536), ("points", "points", 65_536)):
         if words[name] > most:
             return f"the header counts {words[name]:,} {what}, allowed are 0 to {most:,}"
-    at = FRONT
-    for name, what, size in (("objects-at", "offset of the objects", 56 * words["objects"]), ("nested-at", "offset of the nested entries", 24 * words["nested"]),
-                             ("points-at", "offset of the points", 16 * words["points"]), ("length", "length in the header", 0)):
+    if words["reserved"] > 1:
+        return f"the word at 28 is {words['reserved']:,}, allowed are 0 (objects of 56 bytes) and 1 (objects of 64 bytes, with a stated length)"
+    at, size = FRONT, object_form(words["reserved"]).size
+    for name, what, table in (("objects-at", "offset of the objects", size * words["objects"]), ("nested-at", "offset of the nested entries", 24 * words["nested"]),
+                              ("points-at", "offset of the points", 16 * words["points"]), ("length", "length in the header", 0)):
         if words[name] != at:
-            return f"the {what} is {words[name]:,}, by the counts it must be {at:,}"
-        at += size
+            return f"the {what} is {words[name]:,}, by the counts it must be {at:,}" + (", as the word at 28 is 1: objects have 64 bytes" if size == 64 else "")
+        at += table
     if len(b) < at:
         return f"the chart has {len(b):,} bytes, its header says {at:,}"
-    if words["reserved"]:
-        return f"the reserved word at 28 is {words['reserved']}, it must be 0"
     flags = SETTINGS.unpack_from(b, HEADER.size)[6]
     return f"the flags are 0x{flags:X}, bits other than hidden (1) and autopilot (2) must be 0" if flags > 3 else None
 
@@ -402,7 +429,7 @@ def setting_fault(c):
 
 def object_fault(o):
     """3: an object's own fields wrong."""
-    start, end, x, y, sx, sy, kind, *last = o
+    start, end, x, y, sx, sy, kind, *last, length = o
     name = KINDS[kind] if kind < 3 else "object"
     fault = (time_fault(f"the {name}'s start", start) or time_fault(f"the {name}'s end", end) or coordinate_fault(f"the {name}'s", x, y)
              or outside(f"the {name}'s stack offset x", sx, 32, -1024, 1024) or outside(f"the {name}'s stack offset y", sy, 32, -1024, 1024))
@@ -410,13 +437,15 @@ def object_fault(o):
         return fault
     if kind > 2:
         return f"the kind is {kind:,}, allowed are 0 (circle), 1 (slider) and 2 (spinner)"
-    return slider_fault(o) if kind == SLIDER else other_fault(name, value(start, 64), value(end, 64), last)
+    return slider_fault(o) if kind == SLIDER else other_fault(name, value(start, 64), value(end, 64), last, length)
 
 
-def other_fault(name, start, end, last):
+def other_fault(name, start, end, last, length):
     for what, word in zip(("number of spans", "first nested entry", "number of nested entries", "first point", "number of points"), last):
         if word:
             return f"the {name}'s {what} is {word:,}, it must be 0: only a slider has one"
+    if value(length, 64) != 0:
+        return f"the {name}'s stated length is {said(length, 64)}, it must be 0: only a slider has one"
     if name == "circle" and start != end:
         return f"the circle ends at {plain(end)} and starts at {plain(start)}, it must end where it starts"
     return f"the spinner ends at {plain(end)}, before its start at {plain(start)}" if end < start else None
@@ -427,7 +456,9 @@ def slider_fault(o):
         if not 1 <= count <= 1024:
             return f"the slider's {what} are {count:,}, allowed are 1 to 1,024"
     lasts = value(o[1], 64) - value(o[0], 64)
-    return None if lasts >= 0.001 else f"the slider's end minus its start is {plain(lasts)}, at least 0.001 is needed"
+    if not lasts >= 0.001:
+        return f"the slider's end minus its start is {plain(lasts)}, at least 0.001 is needed"
+    return outside("the slider's stated length", o[12], 64, 0, 1_000_000)
 
 
 def entries_fault(c, o):

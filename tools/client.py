@@ -11,17 +11,20 @@ import struct
 import subprocess
 import sys
 
-SIZE = 56
+sys.dont_write_bytecode = True
+import chart
+
 SCRATCH = 8_192
 READINGS = ("value", "record")  # refused, they are not printed
 
 
 def drags(b, n, place):
     """Each drag as a line of a script."""
-    o = bytearray(b[80 + SIZE * place:80 + SIZE * (place + 1)])
+    size = chart.object_size(b)
+    o = bytearray(b[80 + size * place:80 + size * (place + 1)])
     for step in range(1000):
         struct.pack_into("<f", o, 16, 200_000 if step % 10 == 9 else 100 + (step % 20 if step % 40 < 20 else 20 - step % 20))
-        yield f"replace {n if step % 17 == 16 else place} {o[:40 if step % 23 == 22 else SIZE].hex()} {n + 2} {n + 2}"
+        yield f"replace {n if step % 17 == 16 else place} {o[:40 if step % 23 == 22 else size].hex()} {n + 2} {n + 2}"
 
 
 def shown(n, place):
@@ -30,13 +33,13 @@ def shown(n, place):
 
 def calls(b, n, place):
     """Those up to the last drag, and those after it."""
-    last = []
+    last, size = [], chart.object_size(b)
 
     def dragged():
-        yield from [f"buffer {len(b) + SIZE}", f"open {n + 2} {n + 2}", *shown(n, place)]
+        yield from [f"buffer {len(b) + size}", f"open {n + 2} {n + 2}", *shown(n, place)]
         for step, line in enumerate(drags(b, n, place)):
             yield line
-            if len(line.split()[2]) == 2 * SIZE and int(line.split()[1]) == place and step % 10 != 9:
+            if len(line.split()[2]) == 2 * size and int(line.split()[1]) == place and step % 10 != 9:
                 last[:] = [line.split()[2]]
             if step % 250 == 0:
                 yield from shown(n, place)

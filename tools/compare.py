@@ -9,6 +9,7 @@ TOOLS is the folder of the oracle's scripts (mkcharts.py, mkscripts.py), BUILD t
 
 lists: PROGRAM reads from standard input for each chart its length (u32, little-endian) and its bytes, and prints the lister's lines for each, one
 after another. The charts are of all styles in turn, to 32,768 bytes; every eighth is damaged, though some of these open. Zeros of either sign are equal.
+With an order 4 among ORDERS two of three charts have stated lengths, of lists and of scripts.
 
 scripts: PROGRAM is `test_scripts`, or reads and writes as it does (crates/test_scripts/src/main.rt); tools/scripts.py packs the calls. The charts open; every
 fifth has 0 to 3 objects, and half of these are edited at every place. Every second script is a list of calls on one buffer, with no other hand on the chart; in the others a hand writes to the chart and
@@ -31,6 +32,8 @@ import sys
 import tempfile
 
 sys.dont_write_bytecode = True
+import stated
+from chart import object_size
 from scripts import KEPT, every_place, packed_script, patterns
 
 BATCH = 500
@@ -38,38 +41,50 @@ BATCH = 500
 
 def damage(rng, b):
     """A chart cut, lengthened, with objects or nested entries out of order, too long in time, or with some bits flipped."""
-    how, b, (n, nested) = rng.random(), bytearray(b), struct.unpack_from("<2I", b)
+    how, b, (n, nested), size = rng.random(), bytearray(b), struct.unpack_from("<2I", b), object_size(b)
     if how < 0.15:
         return bytes(b[:rng.randrange(len(b))])
     if how < 0.25 and len(b) < 32_000:
         return bytes(b) + rng.randbytes(rng.randrange(1, 60))
     if how < 0.4 and n > 1:
-        k = 80 + 56 * rng.randrange(n - 1)
-        b[k:k + 112] = b[k + 56:k + 112] + b[k:k + 56]
+        k = 80 + size * rng.randrange(n - 1)
+        b[k:k + 2 * size] = b[k + size:k + 2 * size] + b[k:k + size]
     elif how < 0.55 and n > 0:
-        struct.pack_into("<2d", b, 80 + 56 * (n - 1), 1e7, 1e7)
+        struct.pack_into("<2d", b, 80 + size * (n - 1), 1e7, 1e7)
     elif how < 0.7 and nested > 1:
-        k = 80 + 56 * n + 24 * rng.randrange(nested - 1)
+        k = 80 + size * n + 24 * rng.randrange(nested - 1)
         b[k:k + 48] = b[k + 24:k + 48] + b[k:k + 24]
+    elif how < 0.85 and n > 0 and size == 64:
+        struct.pack_into("<d", b, 80 + size * rng.randrange(n) + 56, rng.choice(stated.WRONG))
     else:
         for _ in range(rng.choice((1, 1, 1, 2, 4))):
             b[rng.randrange(len(b)) if rng.random() < 0.8 else rng.randrange(80)] ^= 1 << rng.randrange(8)
     return bytes(b)
 
 
+def stated_round(i, styles):
+    """0 where the i-th chart has no stated lengths, 1 where it is of its style with some, 2 where it is of the style made for them."""
+    import orders
+    return i // styles % 3 if orders.has(4) else 0
+
+
 def style_chart(mk, seed, i):
     """The i-th chart of a seed, and its name."""
     styles = list(mk.STYLES)
     style, key = styles[i % len(styles)], f"{seed}.{i // len(styles)}"
-    return f"{style} {key}", mk.chart_of(style, key).pack()
+    which = stated_round(i, len(styles))
+    if which == 2:
+        return f"stated lengths {seed}.{i}", stated.path_ends(f"{seed}.{i}").pack()
+    return (f"{style} {key}, stated", stated.styled(mk, style, key).pack()) if which else (f"{style} {key}", mk.chart_of(style, key).pack())
 
 
 def script_chart(mk, seed, i):
     """The chart of the i-th script, and its name."""
     if i % 5 != 4:
         return style_chart(mk, seed, i)
-    n = i // 10 % 4
-    return f"{n} objects {seed}.{i}", mk.sized(n, f"{seed}.{i}").pack()
+    n, which = i // 10 % 4, stated_round(i, len(mk.STYLES))
+    c = stated.few(n, f"{seed}.{i}") if which else mk.sized(n, f"{seed}.{i}")
+    return f"{n} objects {seed}.{i}" + ", stated" * bool(which), c.pack()
 
 
 def list_chart(mk, seed, i):

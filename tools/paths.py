@@ -1,10 +1,11 @@
 #!/usr/bin/env python3
 """Vectors for the lookup on paths.
 
-    paths.py SHIM CRATE
+    paths.py ORACLE CRATE     writes CRATE/stdin and CRATE/stdout
 
-SHIM is the oracle's folder of that name (rosu_map.rs, number.rs); a small Rust program made around them answers every lookup. CRATE/stdin and
-CRATE/stdout are written. Needs rustc.
+ORACLE is the comparison program, asked with an order 4 in ORDERS: its `leaf` answers every lookup. stdin has for each lookup the progress (f64), the stated
+length (f64), the number of points (u32) and the points (f32 x, f32 y, f64 length so far), little-endian. First come lookups of the drawn length, whose stated
+one is 0; then those of stated lengths below, at and above the drawn one, on paths that end in one point, in a segment, or in lengths about 0.001 apart.
 """
 import math
 import os
@@ -12,38 +13,17 @@ import random
 import struct
 import subprocess
 import sys
-import tempfile
 
-DRIVER = """
-macro_rules! cover { ($($t:tt)*) => {}; }
-macro_rules! cover_if { ($($t:tt)*) => {}; }
-#[allow(dead_code)] #[path = "SHIM/number.rs"] mod number;
-#[allow(dead_code)] #[path = "SHIM/rosu_map.rs"] mod rosu_map;
-use rosu_map::section::hit_objects::{Curve, PathPoint};
-use rosu_map::util::Pos;
-use std::io::Read;
+NEAR = 0.001  # last lengths that are less apart don't prolong the path
+LONGEST = 1e6
 
-fn one(x: f32) -> u32 { if x.is_nan() { 0x7FC0_0000 } else { x.to_bits() } }
 
-fn main() {
-    let mut all = Vec::new();
-    std::io::stdin().read_to_end(&mut all).unwrap();
-    let mut at = 0;
-    let eight = |i: usize| f64::from_le_bytes(all[i..i + 8].try_into().unwrap());
-    let four = |i: usize| f32::from_le_bytes(all[i..i + 4].try_into().unwrap());
-    while at < all.len() {
-        let progress = eight(at);
-        let count = u32::from_le_bytes(all[at + 8..at + 12].try_into().unwrap()) as usize;
-        let points = (0..count).map(|k| {
-            let p = at + 12 + 16 * k;
-            PathPoint { pos: Pos::new(four(p), four(p + 4)), length: eight(p + 8) }
-        }).collect();
-        let p = Curve { points }.position_at(progress);
-        println!("{:08X} {:08X}", one(p.x), one(p.y));
-        at += 12 + 16 * count;
-    }
-}
-"""
+def up(x):
+    return math.nextafter(x, math.inf)
+
+
+def down(x):
+    return math.nextafter(x, -math.inf)
 
 
 def f32(x):
@@ -64,7 +44,7 @@ def path(rng, kind, n):
 def progresses(rng, points):
     last = points[-1][2]
     yield from (0.0, -0.0, 1.0, 0.5, math.nextafter(1.0, 0.0), math.nextafter(0.0, 1.0))
-    # the last point, since no length reaches so far; and what is not a number
+    # beyond the drawn end, since no length reaches so far; and what is not a number
     yield from (1.0 + 2.0 ** -52, 2.0, -1.0, math.inf, math.nan)
     for _, _, length in points:
         if last > 0:
@@ -74,28 +54,77 @@ def progresses(rng, points):
         yield rng.random()
 
 
-def main():
-    shim, crate = sys.argv[1:]
+def drawn():
+    """Lookups of the drawn length: progress, stated length, points."""
     rng = random.Random(20)
-    data = bytearray()
     for i in range(90):
         n = rng.choice([1, 1, 2, 2, 3, 4, 5, 8, 13, 64 if i % 30 == 0 else 6])
         points = path(rng, rng.choice(["rising", "rising", "equal", "zero"]), n)
         for s in progresses(rng, points):
-            data += struct.pack("<dI", s, n)
-            for x, y, length in points:
-                data += struct.pack("<ffd", x, y, length)
-    with tempfile.TemporaryDirectory() as folder:
-        source = os.path.join(folder, "lookups.rs")
-        with open(source, "w") as f:
-            f.write(DRIVER.replace("SHIM", os.path.abspath(shim)))
-        subprocess.run(["rustc", "-O", "--edition", "2021", source, "-o", source[:-3]], check=True)
-        answers = subprocess.run([source[:-3]], input=bytes(data), stdout=subprocess.PIPE, check=True).stdout
+            yield s, 0.0, points
+
+
+def ends(rng):
+    """Paths by how they end: one point; lengths that are so far apart, a unit more and a unit less, behind a short path and a long one; any."""
+    for _ in range(3):
+        yield path(rng, "zero", 1)
+    for before in (0.0, 1.0, 100.0, rng.uniform(0, 1000), 999_998.0):
+        for gap in (0.0, 5e-324, 0.0005, 0.0009999, down(NEAR), NEAR, up(NEAR), 0.0010001):
+            for last in (down(before + gap), before + gap, up(before + gap)):
+                if last >= before:
+                    lengths = ([0.0] + [before / 2] * rng.randrange(2)) * (before > 0) + [before, last]
+                    yield [(f32(rng.uniform(-300, 300)), f32(rng.uniform(-300, 300)), length) for length in lengths]
+    for _ in range(20):
+        yield path(rng, rng.choice(["rising", "rising", "equal", "zero"]), rng.choice([2, 2, 3, 5, 9]))
+
+
+def stated_lengths(rng, last):
+    """Shorter than the drawn one, equal, longer; none; the ends of the range."""
+    any_of = ((0.0, -0.0), (5e-324, 1e-300), (last * rng.random(), down(last), last), (up(last), last + 0.0005, last * rng.uniform(1, 3)),
+              (last + rng.uniform(0, 200), LONGEST, down(LONGEST)))
+    return [min(max(rng.choice(some), 0.0), LONGEST) for some in any_of]
+
+
+def reached(rng, last, stated):
+    """Progresses: the ends, some between, those at which the drawn end is reached, and what no slider gives."""
+    yield from (1.0, rng.choice([0.0, -0.0, 0.5, down(1.0)]))
+    if stated > 0 and math.isfinite(last / stated) and last <= stated:
+        yield from rng.sample([last / stated, up(last / stated), down(last / stated)], 2)
+    yield rng.choice([rng.random(), rng.random(), up(1.0), 2.0, math.inf, math.nan, -1.0])
+
+
+def stated():
+    rng = random.Random(4)
+    for points in ends(rng):
+        for length in stated_lengths(rng, points[-1][2]):
+            for s in reached(rng, points[-1][2], length):
+                yield s, length, points
+
+
+def packed(s, length, points):
+    return struct.pack("<2dI", s, length, len(points)) + b"".join(struct.pack("<ffd", *p) for p in points)
+
+
+def asked(s, length, points):
+    """The lookup as a line for the oracle."""
+    hx, h32 = (lambda x: struct.pack(">d", x).hex().upper()), (lambda x: struct.pack(">f", x).hex().upper())
+    return " ".join(["lookup", hx(s), hx(length), *(word for x, y, far in points for word in (h32(x), h32(y), hx(far)))])
+
+
+def main():
+    if len(sys.argv) != 3 or "4" not in os.environ.get("ORDERS", "").split(","):
+        sys.exit(__doc__)
+    oracle, crate = sys.argv[1:]
+    lookups = [*drawn(), *stated()]
+    answers = subprocess.run([oracle, "leaf"], input="".join(asked(*one) + "\n" for one in lookups), capture_output=True, text=True, check=True).stdout
+    if answers.count("\n") != len(lookups):
+        sys.exit("the oracle doesn't answer every lookup")
+    data = b"".join(packed(*one) for one in lookups)
     with open(os.path.join(crate, "stdin"), "wb") as f:
         f.write(data)
-    with open(os.path.join(crate, "stdout"), "wb") as f:
+    with open(os.path.join(crate, "stdout"), "w") as f:
         f.write(answers)
-    print(answers.count(b"\n"), "lookups,", len(data), "bytes")
+    print(len(lookups), "lookups,", len(data), "bytes")
 
 
 if __name__ == "__main__":

@@ -5,7 +5,7 @@
 
 ORACLE is the comparison program built from the customer's Rust. The calls on a chart are drags, changes of kind, objects that break each
 condition, wrong lengths, places and table lengths; they are a function of the chart's bytes. Each answer is the oracle's for the chart as
-the calls before it left it.
+the calls before it left it. In a chart with stated lengths (order 4) an object has one more field.
 """
 import os
 import random
@@ -15,12 +15,17 @@ import sys
 import tempfile
 import zlib
 
+sys.dont_write_bytecode = True
+import chart as chart_tool
+
 FIELDS = "<ddffffIIIIII"
+STATED_FIELDS = FIELDS + "d"
 
 
 def changed(r, o, earlier, later):
     """An object with one thing changed: about half of these are refused."""
-    f = list(struct.unpack(FIELDS, o))
+    fields = FIELDS if len(o) == chart_tool.OBJECT.size else STATED_FIELDS
+    f = list(struct.unpack(fields, o))
     what = r.randrange(14)
     if what < 4:
         f[2], f[3] = r.uniform(-500, 1000), r.uniform(-500, 1000)
@@ -32,10 +37,10 @@ def changed(r, o, earlier, later):
     elif what == 6:
         f[4], f[5] = r.choice(((1024.0, -1024.0), (1024.5, 0.0), (0.0, float("inf"))))
     elif what == 7:
-        f[6:] = [0, 0, 0, 0, 0, 0]
+        f[6:] = [0] * len(f[6:])
         f[1] = f[0]
     elif what == 8:
-        f[6:] = [2, 0, 0, 0, 0, 0]
+        f[6:] = [2] + [0] * len(f[7:])
         f[1] = f[0] + r.choice((0, 500, -1))
     elif what == 9:
         f[6] = 3
@@ -46,22 +51,25 @@ def changed(r, o, earlier, later):
         f[2] = r.choice((131072.0, 131073.0, -131072.0, float("-inf")))
     elif what == 12:
         f[8] = r.choice((0, 65535, 4294967295)) if f[6] == 1 else 1
-    return struct.pack(FIELDS, *f)
+    elif fields == STATED_FIELDS:
+        f[12] = r.choice((0.0, -0.0, 5e-324, 40.0, 200.0, 1e6, 1000000.1, -1.0, float("nan"), float("inf")))
+    return struct.pack(fields, *f)
 
 
 def calls(chart):
     r = random.Random(zlib.adler32(chart))
     n = struct.unpack_from("<I", chart)[0] if len(chart) >= 80 else 0
-    fits = n * 56 + 80 <= len(chart)
+    size = chart_tool.object_size(chart)
+    fits = n * size + 80 <= len(chart)
     for _ in range(12):
         k = r.choice((0, 1, n - 1, r.randrange(n))) if n and fits else 0
-        at = 80 + 56 * k
-        o = chart[at:at + 56] if n and fits else bytes(56)
-        start = lambda i: struct.unpack_from("<d", chart, 80 + 56 * i)[0] if n and fits and 0 <= i < n else None
+        at = 80 + size * k
+        o = chart[at:at + size] if n and fits else bytes(size)
+        start = lambda i: struct.unpack_from("<d", chart, 80 + size * i)[0] if n and fits and 0 <= i < n else None
         earlier, later = start(k - 1), start(k + 1)
         here = start(k) or 0.0
         o = changed(r, o, here if earlier is None else earlier, here if later is None else later)
-        o = r.choice((o,) * 12 + (o[:55], o + b"\0", b""))
+        o = r.choice((o,) * 12 + (o[:size - 1], o + b"\0", b"" if size == 56 else o[:56]))
         entries = r.choice((n,) * 10 + (n + 3, max(n - 1, 0), 0))
         yield r.choice((k,) * 12 + (n, n + 1, 2**32, 2**64 - 1)), entries, o
 

@@ -6,7 +6,7 @@
 
 ORACLE is the comparison program built from the customer's Rust, SECOND the folder of its second calculator and of mkscripts.py, which makes the
 calls; the variable ORDERS tells them which orders have landed. A chart that opens gets two scripts: one that opens it first, and a shorter one on tables
-that were never filled. A chart that does not open gets one of the second kind, a short one that opens a third which edits it at every place. Tables and scratch are lent in numbers, so a length has up to one entry less
+that were never filled. A chart that does not open gets one of the second kind, one of few objects that opens a third which edits it at every place. Tables and scratch are lent in numbers, so a length has up to one entry less
 one number on top.
 
 The answers are the oracle's. Where it only says that a call is carried out, because the tables were made elsewhere, the model below answers: it
@@ -24,6 +24,7 @@ from types import SimpleNamespace
 
 sys.dont_write_bytecode = True
 sys.path.insert(0, os.path.dirname(os.path.abspath(__file__)))
+import chart as chart_tool
 import foreign
 from foreign import Real
 
@@ -299,7 +300,8 @@ CIRCLE = struct.pack("<2d4f6I", 1000.0, 1000.0, 100.0, 100.0, *[0.0] * 2, *[0] *
 def every_place(chart):
     """A script for a chart that opens: in a buffer with room for one object more, a copy put in and taken out again at every place, then all
     objects taken out and put back from either end; after each edit all that can be read is read."""
-    n, size = struct.unpack_from("<I", chart)[0], 56
+    n, size = struct.unpack_from("<I", chart)[0], chart_tool.object_size(chart)
+    circle = (CIRCLE + bytes(8))[:size].hex()
     objects = [chart[80 + size * k:80 + size * (k + 1)].hex() for k in range(n)]
     lines = [f"buffer {len(chart) + size}", f"open {n} {n}"]
 
@@ -310,8 +312,8 @@ def every_place(chart):
         lines.extend([f"totals {m} / 8192 8192 8192 8192", f"entry {m}", f"entry {m + 1}", "chart"])
 
     for k in range(n + 1):
-        edit(k, (objects[k:] + objects[-1:] + [CIRCLE.hex()])[0], n + 1)
-        lines.append(f"insert {k} {CIRCLE.hex()} {n + 2} {n + 2}")
+        edit(k, (objects[k:] + objects[-1:] + [circle])[0], n + 1)
+        lines.append(f"insert {k} {circle} {n + 2} {n + 2}")
         edit(k, None, n)
     for front in (True, False):
         for m in reversed(range(n)):
@@ -322,10 +324,15 @@ def every_place(chart):
     return lines
 
 
+def few_stated(chart):
+    """Whether a chart has stated lengths and no more than three objects."""
+    return chart_tool.object_size(chart) == 64 and struct.unpack_from("<I", chart)[0] < 4
+
+
 def scripts(mkscripts, second, chart, seed, calls):
     """The scripts on a chart, and whether each is on tables that were never filled."""
     if second.conditions(chart) is None:
-        if len(chart) < 80 + 56 * 4:
+        if len(chart) < 80 + 56 * 4 or few_stated(chart):
             yield every_place(chart), False
         yield mkscripts.script(chart, f"{seed}/False", calls)[0], False
     lines = mkscripts.script(chart, f"{seed}/True", calls // 3)[0]
@@ -333,22 +340,16 @@ def scripts(mkscripts, second, chart, seed, calls):
     yield lines, True
 
 
-def main():
-    if len(sys.argv) < 7:
-        sys.exit(__doc__)
-    oracle, folder, out, *rest = sys.argv[1:]
-    how, (seed, calls, *names) = ("a", rest[1:]) if rest[0] == "--add" else ("w", rest)
-    sys.path.insert(0, folder)
+def write(oracle, out, how, seed, calls, charts):
+    """Writes (w) or appends (a) the scripts on charts to both files of a folder; the modules of the oracle's scripts are found already."""
     import mkscripts
     import second
     r = random.Random(f"scripts/{seed}")
     met, n_scripts, n_calls, n_open = collections.Counter(), 0, 0, 0
     fillings = list(patterns(r))
     with open(f"{out}/stdin", how + "b") as given, open(f"{out}/stdout", how) as wanted:
-        for name in names:
-            with open(name, "rb") as file:
-                chart = file.read()
-            for lines, unopened in scripts(mkscripts, second, chart, seed, int(calls)):
+        for chart in charts:
+            for lines, unopened in scripts(mkscripts, second, chart, seed, calls):
                 pattern = fillings[n_scripts % len(fillings)]
                 told, left = answers(second, oracle, chart, pattern, lines, unopened)
                 given.write(packed_script(r, chart, pattern, lines, told))
@@ -357,6 +358,19 @@ def main():
                 for line, answer in zip(lines, told):
                     met[line.split()[0] + " " + (answer[:9] if answer.startswith("refused") else "done")] += 1
     print(n_scripts, "scripts,", n_calls, "calls,", n_open, "answered by the model alone", dict(sorted(met.items())), file=sys.stderr)
+
+
+def main():
+    if len(sys.argv) < 7:
+        sys.exit(__doc__)
+    oracle, folder, out, *rest = sys.argv[1:]
+    how, (seed, calls, *names) = ("a", rest[1:]) if rest[0] == "--add" else ("w", rest)
+    sys.path.insert(0, folder)
+    charts = []
+    for name in names:
+        with open(name, "rb") as file:
+            charts.append(file.read())
+    write(oracle, out, how, seed, int(calls), charts)
 
 
 if __name__ == "__main__":
