@@ -12,4 +12,5 @@ pub mod Moves
 pub mod Places
 pub mod Limits
 pub mod Alone
+pub mod Playing
 pub mod Theorems

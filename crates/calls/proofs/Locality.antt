@@ -1,20 +1,26 @@
 -- What a record, a value and a strain depend on; and that opening and replacing leave fresh tables. Assumes nothing.
 use mathlib.Core.Path.{_≡_, refl, sym, ap, _∙_}
 use mathlib.Core.Bool.{Bool, true, false, cond}
-use mathlib.Core.List.{List}
-use Prim.Native.Nat.{ℕ, _+_, _-_, _*_, _≤_, _<_, min}
+use mathlib.Core.List.{List, _∷_}
+use Prim.Native.Nat.{ℕ, zero, suc, _+_, _-_, _*_, _≤_, _<_, min}
 use native.Mathlib.Omega.{arith}
 use native.Mathlib.Decide.{decLt}
 use lib.Ieee.{Float, nan}
+use lib.Dec.{ltb}
 use lib.ListN.{length, getD}
+use borrow.Author.Tests.{ltb-false}
 use Rattle.num_floats.specs.Numbers.{_⊖_, _⊘_}
 use Rattle.num_tables.specs.Parts.{row}
 use Rattle.num_tables.specs.Rows.{length-fill, take-fill, drop-fill, row-fill-in, row-fill-out}
 use Rattle.chart_opening.specs.Header.{layoutOf, settingsOf}
+use Rattle.chart_opening.specs.Conditions.{firstOf}
+use Rattle.chart_opening.specs.Accepted.{not-met, head-accepts}
+use Rattle.chart_opening.specs.declared.Refusal.the-variants.{Place}
 use Rattle.chart_opening.specs.declared.Settings.{Settings}
+use Rattle.chart_opening.specs.declared.Verdict.the-variants.{Accepted}
 use Rattle.chart_replacing.specs.Replace.{putObject}
 use Rattle.chart_replacing.specs.Accepted.{Taken}
-use Rattle.osu_object.specs.Osu.{Object, objectOf, osuObject}
+use Rattle.osu_object.specs.Osu.{Object, objectOf, osuObject, listFrom}
 use Rattle.osu_difficulty_object.specs.Record.{recordOf, chartRecord}
 use Rattle.osu_difficulty_object.proofs.Laws.{start-time, delta-time, lazy-end-x, lazy-end-y}
 use Rattle.osu_records.specs.Rows.{rowOf, recordAt}
@@ -30,11 +36,14 @@ use Rattle.eval_values.specs.Laws.{values-width}
 use Rattle.eval_values.proofs.Local.{values-local}
 use Rattle.skills.specs.declared.Skills.{Skills}
 use Rattle.skills.specs.Strains.{strains}
+use Rattle.skills_counts.specs.Chart.{sliderAt}
+use Rattle.skills_counts.proofs.Local.{counts-local}
 use Rattle.star_rating.specs.Stars.{ratingsOf}
 use Rattle.skills.specs.Chart.{startAt, deltaAt}
 use Rattle.skills.proofs.Local.{strains-local, total-local}
 use Rattle.calls.specs.Tables.{recordWidth, valueWidth}
-use Rattle.calls.specs.Afresh.{Record, count, object, freshRecord, freshRow, freshValues, freshStrains, valuesFrom, strainsFrom, Detail, aimParts, rhythm, aimIs, rhythmIs, detailOf, freshDetail, detailFrom, Figure, totals, ratings, totalsAre, ratingsAre, totalsOf, figureOf, freshFigure, figureFrom}
+use Rattle.calls.specs.Afresh.{Record, count, object, freshRecord, freshRow, freshValues, freshStrains, valuesFrom, strainsFrom, Detail, aimParts, rhythm, aimIs, rhythmIs, detailOf, freshDetail, detailFrom, Figure, totals, counts, totalsTo, playing, ratings, totalsAre, countsAre, playedAre, ratingsAre, reachedOf, countsOf, totalsOf, figureOf, freshFigure, figureFrom}
+use Rattle.calls.specs.Conditions.{askedConditions}
 use Rattle.calls.specs.Calls.{State, state, openRecords, openValues, openStart, openMade, editRecords, editValues, recordsStart, recordsMade, valuesStart, valuesMade}
 use Rattle.calls.specs.Statement.{Fresh, Outside, valueFound, FrameAfresh}
 use Rattle.calls.proofs.Replacing.{count-same, settings-same, object-same}
@@ -179,6 +188,32 @@ strain-from s st j q f =
     strains-local (deltaAt (st .chart) (layoutOf (st .chart)) (s .«clock_rate»)) (deltaAt (st .chart) (layoutOf (st .chart)) (s .«clock_rate»))
     (row valueWidth (st .values)) (freshValues s (st .chart)) j (λ i x y. refl) (λ i x y. f .values i x (omega arith))
 
+pub reached-local : (m : ℕ) (s : Settings) (b : List ℕ) (vs vs' : ℕ → List Float) → ((i : ℕ) → 1 ≤ i → i < m → vs i ≡ vs' i) → reachedOf m s b vs ≡ reachedOf m s b vs'
+unfolding reachedOf
+reached-local m s b vs vs' h =
+    let d = deltaAt b (layoutOf b) (s .«clock_rate») in
+    let t = startAt b (layoutOf b) (s .«clock_rate») in
+    total-local d d vs vs' t t m (λ i x. refl) (λ i x y. refl) h
+
+-- of a list, number by number
+listed-local : {A : Type 0} (f g : ℕ → A) (i n : ℕ) → ((k : ℕ) → i ≤ k → k < i + n → f k ≡ g k) → listFrom f i n ≡ listFrom g i n
+unfolding listFrom
+listed-local f g i zero h = refl
+listed-local f g i (suc n) h = λ t. h i (omega arith) (omega arith) t ∷ listed-local f g (suc i) n (λ k x y. h k (omega arith) (omega arith)) t
+
+counted-local : (s : Settings) (b : List ℕ) (vs vs' : ℕ → List Float) → ((i : ℕ) → 1 ≤ i → i < count b → vs i ≡ vs' i) → countsOf s b vs ≡ countsOf s b vs'
+unfolding countsOf
+counted-local s b vs vs' h =
+    let d = deltaAt b (layoutOf b) (s .«clock_rate») in
+    let t = startAt b (layoutOf b) (s .«clock_rate») in
+    let k = sliderAt b (layoutOf b) in
+    counts-local d d k k vs vs' t t (count b) (λ i x. refl) (λ i x y. refl) (λ i x y. refl) h
+
+-- what comes with a call for the totals after m objects passes: there are as many
+some-objects : (m n : ℕ) → firstOf (askedConditions (totalsTo m) n) ≡ Accepted → m ≤ n
+unfolding askedConditions
+some-objects m n e = ltb-false n m (not-met (ltb n m) Place (head-accepts _ _ e))
+
 pub totals-local : (s : Settings) (b : List ℕ) (vs vs' : ℕ → List Float) → ((i : ℕ) → 1 ≤ i → i < count b → vs i ≡ vs' i) → totalsOf s b vs ≡ totalsOf s b vs'
 unfolding totalsOf
 totals-local s b vs vs' h =
@@ -186,14 +221,18 @@ totals-local s b vs vs' h =
     let t = startAt b (layoutOf b) (s .«clock_rate») in
     total-local d d vs vs' t t (count b) (λ i x. refl) (λ i x y. refl) h
 
--- a figure sees the values of places 1 to N - 1: each kind of figure adds one case here
-pub figure-local : (f : Figure) (s : Settings) (b : List ℕ) (vs vs' : ℕ → List Float) → ((i : ℕ) → 1 ≤ i → i < count b → vs i ≡ vs' i) → figureOf f s b vs ≡ figureOf f s b vs'
+-- a figure whose call passes sees the values of places 1 to N - 1: each kind of figure adds one case here
+pub figure-local : (f : Figure) (s : Settings) (b : List ℕ) (vs vs' : ℕ → List Float) → firstOf (askedConditions f (count b)) ≡ Accepted → ((i : ℕ) → 1 ≤ i → i < count b → vs i ≡ vs' i) → figureOf f s b vs ≡ figureOf f s b vs'
 unfolding figureOf
-figure-local totals s b vs vs' h = ap totalsAre (totals-local s b vs vs' h)
-figure-local (ratings asked) s b vs vs' h = ap (λ (t : Skills). ratingsAre (ratingsOf t (count b) asked)) (totals-local s b vs vs' h)
+figure-local totals s b vs vs' e h = ap totalsAre (totals-local s b vs vs' h)
+figure-local counts s b vs vs' e h = ap countsAre (counted-local s b vs vs' h)
+figure-local (totalsTo m) s b vs vs' e h = ap totalsAre (reached-local m s b vs vs' (λ i x y. h i x (omega (arith, some-objects m (count b) e))))
+figure-local (playing entries) s b vs vs' e h =
+    ap playedAre (listed-local (λ m. reachedOf m s b vs) (λ m. reachedOf m s b vs') 0 (count b + 1) (λ m x y. reached-local m s b vs vs' (λ i p q. h i p (omega arith))))
+figure-local (ratings asked) s b vs vs' e h = ap (λ (t : Skills). ratingsAre (ratingsOf t (count b) asked)) (totals-local s b vs vs' h)
 
-pub figure-from : (f : Figure) (s : Settings) (st : State) → Fresh s st → figureFrom f s (st .chart) (st .values) ≡ freshFigure f s (st .chart)
-figure-from f s st h = figure-local f s (st .chart) (row valueWidth (st .values)) (freshValues s (st .chart)) (h .values)
+pub figure-from : (f : Figure) (s : Settings) (st : State) → firstOf (askedConditions f (count (st .chart))) ≡ Accepted → Fresh s st → figureFrom f s (st .chart) (st .values) ≡ freshFigure f s (st .chart)
+figure-from f s st e h = figure-local f s (st .chart) (row valueWidth (st .values)) (freshValues s (st .chart)) e (h .values)
 
 -- delta times of places whose objects are the same
 delta-at : (clock : Float) (b b' : List ℕ) (j : ℕ) → object b (j - 1) ≡ object b' (j - 1) → object b j ≡ object b' j

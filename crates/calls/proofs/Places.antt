@@ -23,7 +23,7 @@ use Rattle.chart_replacing.specs.Replace.{putObject, placeConditions, replaceCo
 use Rattle.chart_inserting.specs.Insert.{insertObject, removeObject, noRoom, insertPlaceConditions, insertConditions, removePlaceConditions, removeConditions}
 use Rattle.star_rating.specs.Stars.{finiteAsked}
 use Rattle.calls.specs.Tables.{entriesOf}
-use Rattle.calls.specs.Afresh.{Detail, Figure, totals, ratings, count}
+use Rattle.calls.specs.Afresh.{Detail, Figure, totals, counts, totalsTo, playing, ratings, count}
 use Rattle.calls.specs.Conditions.{Lengths, scratchShort, replace, insert, remove, readRecord, readValues, readDetail, figure, readConditions, readVerdict, sumConditions, askedConditions, figureConditions, opening, refusal}
 use Rattle.calls.specs.Statement.{Lowest, Placed, ReplacePlaced, of-chart, of-place, of-length, of-result, InsertPlaced, insert-of-chart, insert-of-place, insert-of-room, insert-of-length, insert-of-result, RemovePlaced, remove-of-chart, remove-of-place, remove-of-result}
 
@@ -104,6 +104,9 @@ opening-placed r v b = open-placed b (entriesOf r v)
 asked-placed : (f : Figure) (b : List ℕ) → Each (Placed b) (askedConditions f (count b))
 unfolding askedConditions
 asked-placed totals b = tt
+asked-placed counts b = tt
+asked-placed (totalsTo m) b = (each-if (Placed b) (ltb (count b) m) Place tt, tt)
+asked-placed (playing entries) b = (each-if (Placed b) (ltb entries (count b + 1)) Table tt, tt)
 asked-placed (ratings asked) b = (each-if (Placed b) (not (finiteAsked asked)) NotFinite tt, tt)
 
 pub figure-placed : (f : Figure) (l : Lengths) (r v : ℕ) (b : List ℕ) (q : Refusal) → refusal (figure f l) r v b ≡ Refused q → Placed b q

@@ -431,8 +431,8 @@ as-own (readDetail d k) t u st own e =
       same-state (record { operation = readDetail d k; records = t; values = u }) st,
     )
 as-own (figure f l) t u st own e =
-    let (_, h, _, _) = figure-accepted f l (length (contents t (st .records))) (length (contents u (st .values))) (st .chart) .0 e in (
-      ap figureIs (figure-local f (settingsOf (st .chart)) (st .chart) (row valueWidth (contents u (st .values))) (row valueWidth (st .values))
+    let (_, h, _, a) = figure-accepted f l (length (contents t (st .records))) (length (contents u (st .values))) (st .chart) .0 e in (
+      ap figureIs (figure-local f (settingsOf (st .chart)) (st .chart) (row valueWidth (contents u (st .values))) (row valueWidth (st .values)) a
           (λ i p q. row-lent u own valueWidth i (st .values) (omega arith))),
       same-state (record { operation = figure f l; records = t; values = u }) st,
     )
@@ -569,7 +569,8 @@ module _ (st₀ : State) where
       let a = accepted-detail d k r v (st .chart) e in
       record { answer = ap detailIs (detail-from d (settingsIn st) st k (a .one) (a .below) (i .fresh)); chart = refl; inv = i; outside = outside-refl (count (st .chart)) st }
   carried (figure f l) r v st i e h =
-      record { answer = ap figureIs (figure-from f (settingsIn st) st (i .fresh)); chart = refl; inv = i; outside = outside-refl (count (st .chart)) st }
+      let (_, _, _, a) = figure-accepted f l r v (st .chart) .0 e in
+      record { answer = ap figureIs (figure-from f (settingsIn st) st a (i .fresh)); chart = refl; inv = i; outside = outside-refl (count (st .chart)) st }
 
   -- any admissible call
   pub step : (c : Call) (st : State) → Inv st → Admissible st c → Good st (perform c st) (plain (question (length (st₀ .records)) (length (st₀ .values)) c) (st .chart))

@@ -31,6 +31,7 @@ use Rattle.calls.proofs.Locality.{value-local, reach-at, strain-from, d
 use Rattle.calls.proofs.Simulating.{simulate, after-last, throughout-front, throughout-next}
 use Rattle.calls.proofs.Steps.{Inv, Good, step, opened-inv, outside-refl, outside-trans, outside-later}
 use Rattle.calls.proofs.Keeping.{plain-kept}
+use Rattle.calls.proofs.Playing.{playing-entry, playing-whole, playing-rest, playing-refused}
 use Rattle.calls.proofs.Frames.{frame}
 use Rattle.calls.proofs.Moves.{insert-moves, remove-moves}
 use Rattle.calls.proofs.Alone.{steps, own-calls, record-alone, values-alone, detail-alone, figure-alone, record-reads, values-reads, detail-reads, figure-reads, writes, counts, keeps, opening-reads, opening-writes, opened-outside, scratch-cleared, scratch-kept}
@@ -111,7 +112,7 @@ module _ (st₀ : State) (e : openAnswer st₀ ≡ Accepted) where
           reads = λ j p q. read-back (settingsIn st) (st .chart) (st .records) j (i .fresh .records j p q);
           strains = λ j p q. strain-from (settingsIn st) st j q (i .fresh);
           details = λ d j p q. detail-from d (settingsIn st) st j p q (i .fresh);
-          figures = λ f. figure-from f (settingsIn st) st (i .fresh);
+          figures = λ f a. figure-from f (settingsIn st) st a (i .fresh);
           rhythm = λ j p q. rhythm-held (settingsIn st) st j p q (i .fresh);
           aim = λ j p q sliders. aim-held (settingsIn st) st j p q (i .fresh) sliders;
           again = λ rs vs e' j p q.
@@ -212,6 +213,10 @@ theorem = record {
   figure-accepted = figure-accepted;
   scratch-cleared = scratch-cleared;
   scratch-kept = scratch-kept;
+  playing-entry = playing-entry;
+  playing-whole = playing-whole;
+  playing-rest = playing-rest;
+  playing-refused = playing-refused;
   aim-together = aim-combine;
   aim-rule = rule-max;
   rhythm-bounded = comparisons-bounded;

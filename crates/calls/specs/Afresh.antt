@@ -2,12 +2,12 @@
 -- from tables as they are found. Definitions only.
 use mathlib.Core.Bool.{true, false}
 use mathlib.Core.List.{List}
-use Prim.Native.Nat.{ℕ, zero}
+use Prim.Native.Nat.{ℕ, zero, _+_}
 use lib.Ieee.{Float}
 use Rattle.num_tables.specs.Parts.{row}
 use Rattle.chart_opening.specs.Header.{layoutOf}
 use Rattle.chart_opening.specs.declared.Settings.{Settings}
-use Rattle.osu_object.specs.Osu.{Object, objectOf}
+use Rattle.osu_object.specs.Osu.{Object, objectOf, listFrom}
 use Rattle.osu_difficulty_object.specs.Record.{chartRecord}
 use Rattle.osu_difficulty_object.specs.declared.OsuDifficultyObject.{OsuDifficultyObject}
 use Rattle.osu_records.specs.Rows as Rows
@@ -19,6 +19,9 @@ use Rattle.eval_values.specs.Values.{reachOf, valuesOf, valuesIn}
 use Rattle.skills.specs.declared.Skills.{Skills}
 use Rattle.skills.specs.Strains.{strains, total}
 use Rattle.skills.specs.Chart.{startAt, deltaAt}
+use Rattle.skills_counts.specs.Counts as Counts
+use Rattle.skills_counts.specs.Chart.{sliderAt}
+use Rattle.skills_counts.specs.declared.ObjectCounts.{ObjectCounts}
 use Rattle.star_rating.specs.Stars.{ratingsOf}
 use Rattle.star_rating.specs.declared.Asked.{Asked}
 use Rattle.star_rating.specs.declared.Ratings.{Ratings}
@@ -90,20 +93,39 @@ detailFrom d s b rs j = detailOf d s b (Rows.recordAt rs) j
 
 pub data Figure : Type 0 where
   totals : Figure
-  -- with the mods and numbers that come with the call
+  -- document 02, order 2
+  counts : Figure
+  -- order 10: the totals after the first m objects; after every number of objects, for a list of so many entries
+  totalsTo : ℕ → Figure
+  playing : ℕ → Figure
+  -- order 5: with the mods and numbers that come with the call
   ratings : Asked → Figure
 
 -- what a figure comes to
 pub data Amount : Type 0 where
   totalsAre : Skills → Amount
+  countsAre : ObjectCounts → Amount
+  playedAre : List Skills → Amount
   ratingsAre : Ratings → Amount
 
 -- skills/*.rs, from the values by place; times come from the chart
 unfoldable pub totalsOf : Settings → List ℕ → (ℕ → List Float) → Skills
 totalsOf s b values = total (startAt b (layoutOf b) (s .«clock_rate»)) (deltaAt b (layoutOf b) (s .«clock_rate»)) values (count b)
 
+-- "the four totals over places 1 to m-1, where place m-1 still sees its successor": its values are the whole chart's
+unfoldable pub reachedOf : ℕ → Settings → List ℕ → (ℕ → List Float) → Skills
+reachedOf m s b values = total (startAt b (layoutOf b) (s .«clock_rate»)) (deltaAt b (layoutOf b) (s .«clock_rate»)) values m
+
+-- kinds come from the chart, as times do
+unfoldable pub countsOf : Settings → List ℕ → (ℕ → List Float) → ObjectCounts
+countsOf s b values =
+    Counts.counts (startAt b (layoutOf b) (s .«clock_rate»)) (deltaAt b (layoutOf b) (s .«clock_rate»)) (sliderAt b (layoutOf b)) values (count b)
+
 unfoldable pub figureOf : Figure → Settings → List ℕ → (ℕ → List Float) → Amount
 figureOf totals s b values = totalsAre (totalsOf s b values)
+figureOf counts s b values = countsAre (countsOf s b values)
+figureOf (totalsTo m) s b values = totalsAre (reachedOf m s b values)
+figureOf (playing entries) s b values = playedAre (listFrom (λ m. reachedOf m s b values) 0 (count b + 1))
 figureOf (ratings asked) s b values = ratingsAre (ratingsOf (totalsOf s b values) (count b) asked)
 
 abbrev pub freshFigure : Figure → Settings → List ℕ → Amount

@@ -1,21 +1,23 @@
 -- What each call answers and leaves: `outcome`, which the contracts cite; a call on an opened chart, `perform`; and document 01's plain chart, `plain`.
 -- Definitions only.
-use mathlib.Core.List.{List, []}
-use Prim.Native.Nat.{ℕ, _+_, _-_, min, max}
+use mathlib.Core.List.{List, [], _∷_}
+use Prim.Native.Nat.{ℕ, suc, _+_, _-_, _*_, min, max}
 use lib.Ieee.{Float}
 use lib.ListN.{length, replicate}
 use Rattle.num_floats.specs.Numbers.{zero64}
-use Rattle.num_tables.specs.Parts.{row, fill, rowsUp, rowsDown}
+use Rattle.num_tables.specs.Parts.{row, put, fill, rowsUp, rowsDown}
 use Rattle.osu_records.specs.Rows.{recordAt}
 use Rattle.chart_opening.specs.Header.{settingsOf}
 use Rattle.chart_opening.specs.Conditions.{ifAccepted}
 use Rattle.chart_opening.specs.declared.Settings.{Settings}
 use Rattle.chart_opening.specs.declared.Refusal.{Refusal}
 use Rattle.chart_opening.specs.declared.Verdict.{Verdict}
+use Rattle.skills.specs.declared.Skills.{Skills}
+use Rattle.skills_playing.specs.Playing.{totalRow}
 use Rattle.chart_replacing.specs.Replace.{putObject}
 use Rattle.chart_inserting.specs.Insert.{insertObject, removeObject}
-use Rattle.calls.specs.Tables.{recordWidth, valueWidth, Borrowed, contents, lengthOf, tableAfter}
-use Rattle.calls.specs.Afresh.{Record, count, freshRecord, freshRow, freshValues, valuesFrom, Finding, freshDetail, detailFrom, Figure, Amount, freshFigure, figureFrom}
+use Rattle.calls.specs.Tables.{recordWidth, valueWidth, totalsWidth, Borrowed, contents, lengthOf, tableAfter}
+use Rattle.calls.specs.Afresh.{Record, count, freshRecord, freshRow, freshValues, valuesFrom, Finding, freshDetail, detailFrom, Figure, Amount, totalsAre, countsAre, playedAre, ratingsAre, freshFigure, figureFrom}
 use Rattle.calls.specs.Conditions.{Scratch, lengths, Operation, replace, insert, remove, readRecord, readValues, readDetail, figure, opening, refusal}
 
 -- ---- Which entries are made anew
@@ -178,6 +180,29 @@ cleared x = record { aim = zeros (x .aim); aimNoSliders = zeros (x .aimNoSliders
 
 unfoldable pub scratchAfter : Figure → State → Scratch → Scratch
 scratchAfter f st x = ifAccepted (verdictIn (figure f (lengths x)) st) (cleared x) (λ r. x)
+
+-- ---- The list of order 10: entry m has the totals after m objects; "entries past N, and all of them when refused, keep what they held"
+
+-- the totals of a list put into entries m, m + 1, ..
+unfoldable pub putTotals : ℕ → List Skills → List Float → List Float
+putTotals m [] t = t
+putTotals m (x ∷ xs) t = putTotals (suc m) xs (put (totalsWidth * m) (totalRow x) t)
+
+unfoldable pub amountList : Amount → List Float → List Float
+amountList (totalsAre x) t = t
+amountList (countsAre x) t = t
+amountList (playedAre xs) t = putTotals 0 xs t
+amountList (ratingsAre x) t = t
+
+unfoldable pub listAfter : Answer → List Float → List Float
+listAfter (refused r) t = t
+listAfter replaced t = t
+listAfter inserted t = t
+listAfter removed t = t
+listAfter (recordIs x) t = t
+listAfter (valuesAre x) t = t
+listAfter (detailIs x) t = t
+listAfter (figureIs a) t = amountList a t
 
 -- ---- Calls on an opened chart
 

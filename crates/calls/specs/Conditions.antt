@@ -1,7 +1,7 @@
 -- Document 01, "What each call answers": what each call on an opened chart tries, in its order. Definitions only.
 use mathlib.Core.List.{List, [], _∷_, _++_}
 use mathlib.Core.Bool.{Bool, not, _&&_, _||_}
-use Prim.Native.Nat.{ℕ}
+use Prim.Native.Nat.{ℕ, _+_}
 use lib.Dec.{ltb}
 use lib.Ieee.{Float}
 use lib.ListN.{length}
@@ -13,7 +13,7 @@ use Rattle.chart_replacing.specs.Replace.{replaceVerdict}
 use Rattle.chart_inserting.specs.Insert.{insertVerdict, removeVerdict}
 use Rattle.calls.specs.Tables.{leastScratch, recordEntries, valueEntries, entriesOf}
 use Rattle.star_rating.specs.Stars.{finiteAsked}
-use Rattle.calls.specs.Afresh.{Detail, Figure, totals, ratings}
+use Rattle.calls.specs.Afresh.{Detail, Figure, totals, counts, totalsTo, playing, ratings}
 
 -- the four slices of scratch that a figure is lent, one for each skill; and their lengths
 pub record Scratch : Type 0 where
@@ -66,6 +66,9 @@ sumVerdict b entries short = firstOf (sumConditions b entries short)
 -- what a figure tries behind them, of what comes with it, for a chart of n objects
 unfoldable pub askedConditions : Figure → ℕ → List Verdict
 askedConditions totals n = []
+askedConditions counts n = []
+askedConditions (totalsTo m) n = refuseIf (ltb n m) Place ∷ []
+askedConditions (playing entries) n = refuseIf (ltb entries (n + 1)) Table ∷ []
 askedConditions (ratings asked) n = refuseIf (not (finiteAsked asked)) NotFinite ∷ []
 
 unfoldable pub figureConditions : Figure → List ℕ → ℕ → Bool → List Verdict

@@ -4,7 +4,7 @@ use mathlib.Core.Path.{_≡_}
 use mathlib.Core.Logic.{_↔_}
 use mathlib.Core.List.{List, [], _∷_, _++_, map}
 use mathlib.Core.Bool.{Bool, true, false, cond}
-use Prim.Native.Nat.{ℕ, zero, suc, _+_, _-_, _*_, _<_, _≤_, max}
+use Prim.Native.Nat.{ℕ, zero, suc, _+_, _-_, _*_, _/_, _<_, _≤_, max}
 use lib.Ieee.{Float, nan}
 use lib.ListN.{length, take, drop, set, getD}
 use Rattle.num_floats.specs.Fields.{u32At}
@@ -30,11 +30,12 @@ use Rattle.eval_rhythm.specs.Comparisons.{ComparisonsBounded}
 use Rattle.skills.specs.declared.Skill.{Skill}
 use Rattle.skills.specs.Strains.{initialStrain, room, closeTo, reached, walk}
 use Rattle.skills.specs.Chart.{startAt}
+use Rattle.skills_playing.specs.Playing.{totalRow}
 use Rattle.calls.specs.Simulation.{answers, after, Throughout}
-use Rattle.calls.specs.Tables.{recordWidth, valueWidth, entriesOf, Borrowed, own, IsOwn}
-use Rattle.calls.specs.Afresh.{Detail, rhythm, Finding, aimIs, rhythmIs, Figure, count, object, freshRecord, freshRow, freshValues, freshStrains, freshDetail, freshFigure, strainsFrom, detailFrom, figureFrom}
+use Rattle.calls.specs.Tables.{recordWidth, valueWidth, totalsWidth, entriesOf, Borrowed, own, IsOwn}
+use Rattle.calls.specs.Afresh.{Detail, rhythm, Finding, aimIs, rhythmIs, Figure, totals, totalsTo, playing, reachedOf, figureOf, count, object, freshRecord, freshRow, freshValues, freshStrains, freshDetail, freshFigure, strainsFrom, detailFrom, figureFrom}
 use Rattle.calls.specs.Conditions.{Scratch, Lengths, lengths, scratchShort, Operation, replace, insert, remove, readRecord, readValues, readDetail, figure, askedConditions, opening, refusal}
-use Rattle.calls.specs.Calls.{Answer, refused, replaced, inserted, removed, recordIs, valuesAre, detailIs, figureIs, State, state, opened, openAnswer, openLeaves, execute, verdictIn, outcome, zeros, scratchAfter, Call, lent, perform, question, plain}
+use Rattle.calls.specs.Calls.{Answer, refused, replaced, inserted, removed, recordIs, valuesAre, detailIs, figureIs, State, state, opened, openAnswer, openLeaves, execute, verdictIn, outcome, zeros, scratchAfter, listAfter, Call, lent, perform, question, plain}
 
 -- ---- The edits of a list of calls
 
@@ -152,7 +153,9 @@ pub record Sound (st₀ : State) (cs : List Call) (st : State) (xs : List Answer
       → strainsFrom (settingsIn st) (st .chart) (st .values) j ≡ freshStrains (settingsIn st) (st .chart) j
   pub details : (d : Detail) (j : ℕ) → 1 ≤ j → j < count (st .chart)
       → detailFrom d (settingsIn st) (st .chart) (st .records) j ≡ freshDetail d (settingsIn st) (st .chart) j
-  pub figures : (f : Figure) → figureFrom f (settingsIn st) (st .chart) (st .values) ≡ freshFigure f (settingsIn st) (st .chart)
+  -- a figure, where what comes with the call passes
+  pub figures : (f : Figure) → firstOf (askedConditions f (count (st .chart))) ≡ Accepted
+      → figureFrom f (settingsIn st) (st .chart) (st .values) ≡ freshFigure f (settingsIn st) (st .chart)
   -- aim's parts at a place, put together by the Rust's last lines, are the value that the table holds there
   pub aim : (j : ℕ) → 1 ≤ j → j < count (st .chart) → (sliders : Bool)
       → combineOf (partsAtPlace (object (st .chart)) (recordAt (st .records)) j sliders) sliders ≡ getD (row valueWidth (st .values) j) (cond sliders 0 1) nan
@@ -373,6 +376,18 @@ pub record Claims : Type 0 where
   pub scratch-cleared : (f : Figure) (x : Scratch) (st : State) → verdictIn (figure f (lengths x)) st ≡ Accepted → scratchAfter f st x
       ≡ record { aim = zeros (x .aim); aimNoSliders = zeros (x .aimNoSliders); speed = zeros (x .speed); flashlight = zeros (x .flashlight) }
   pub scratch-kept : (f : Figure) (x : Scratch) (st : State) (q : Refusal) → verdictIn (figure f (lengths x)) st ≡ Refused q → scratchAfter f st x ≡ x
+  -- the list of order 10: carried out, entry m equals a separate working out for m, which for m = N is the ordinary answer; entries past N keep what they held, and
+  -- all of them do when it is refused
+  pub playing-entry : (l : Lengths) (st : State) (t : List Float) (m : ℕ)
+      → let a : Operation = figure (playing (length t / totalsWidth)) l in
+      verdictIn a st ≡ Accepted → m ≤ count (st .chart)
+      → row totalsWidth (listAfter (outcome a st .answer) t) m ≡ totalRow (reachedOf m (settingsIn st) (st .chart) (row valueWidth (st .values)))
+  pub playing-whole : (s : Settings) (b : List ℕ) (vs : ℕ → List Float) → figureOf (totalsTo (count b)) s b vs ≡ figureOf totals s b vs
+  pub playing-rest : (l : Lengths) (st : State) (t : List Float)
+      → let a : Operation = figure (playing (length t / totalsWidth)) l in let behind = totalsWidth * (count (st .chart) + 1) in
+      drop behind (listAfter (outcome a st .answer) t) ≡ drop behind t
+  pub playing-refused : (l : Lengths) (st : State) (t : List Float) (q : Refusal)
+      → let a : Operation = figure (playing (length t / totalsWidth)) l in verdictIn a st ≡ Refused q → listAfter (outcome a st .answer) t ≡ t
   -- aim's parts, put together by the Rust's last lines, are its value, from any records; and the rule names the side that the last max takes
   pub aim-together : (v : View) (before : ℕ) (sliders : Bool) → combineOf (partsOf v before sliders) sliders ≡ aimOf v before sliders
   pub aim-rule : (acute wide : Float) → maxOf acute wide ≡ sideOf (ruleOf acute wide) acute wide

@@ -11,6 +11,10 @@ recordWidth = 16
 abbrev pub valueWidth : ℕ
 valueWidth = 5
 
+-- numbers of an entry of the list of order 10: aim, aim without sliders, speed, flashlight
+abbrev pub totalsWidth : ℕ
+totalsWidth = 4
+
 -- "scratch below 8,192 numbers per skill"
 abbrev pub leastScratch : ℕ
 leastScratch = 8192
