@@ -75,6 +75,7 @@ fn velocity(curr: OsuDifficultyObject, last: OsuDifficultyObject, slider: bool) 
     vel
 }
 
+// How wide an angle is: 0 up to 40 degrees, 1 from 140 on.
 fn calc_wide_angle_bonus(angle: f64) -> f64
     ensures { λ r. ⌜ r ≡ wideAngle angle ⌝ }
 {
@@ -85,6 +86,7 @@ fn calc_wide_angle_bonus(angle: f64) -> f64
     )
 }
 
+// How acute an angle is: 0 from 140 degrees on, 1 up to 40.
 fn calc_acute_angle_bonus(angle: f64) -> f64
     ensures { λ r. ⌜ r ≡ acuteAngle angle ⌝ }
 {
@@ -169,6 +171,7 @@ fn close(wide: f64, has_last_2: bool, distance: f32) -> f64
     wide
 }
 
+// The bonuses of wide, acute and wiggling angles; none where an angle is missing.
 fn angle_bonuses(
     curr: OsuDifficultyObject,
     last: OsuDifficultyObject,
@@ -208,6 +211,7 @@ fn change(prev_vel: f64, curr_vel: f64, curr_time: f64, last_time: f64) -> f64
     overlap_vel_buff * dist_ratio * num_elementary::power(bonus_base, 2.0)
 }
 
+// The bonus of a change of velocity; 0 where both velocities are.
 fn vel_change(
     curr: OsuDifficultyObject,
     last: OsuDifficultyObject,
@@ -228,6 +232,7 @@ fn vel_change(
     0.0
 }
 
+// The velocity along the last object where it is a slider, else 0.
 fn slider_bonus(last: OsuDifficultyObject, slider: bool) -> f64
     ensures { λ r. ⌜ r ≡ sliderBonus last slider ⌝ }
 {
@@ -256,6 +261,7 @@ fn rule(acute: f64, wide: f64) -> AimRule
 }
 
 impl AimParts {
+    // All parts 0, with the rule that decided.
     fn none(rule: AimRule) -> Self
         ensures { λ r. ⌜ r ≡ noParts rule ⌝ }
     {

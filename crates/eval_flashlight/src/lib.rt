@@ -95,6 +95,7 @@ fn turns(i: usize) -> usize
 }
 
 impl FlashlightState {
+    // Before the first record.
     fn new() -> Self
         ensures { λ r. ⌜ r ≡ freshState ⌝ }
     {
