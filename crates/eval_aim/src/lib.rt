@@ -97,7 +97,7 @@ fn calc_acute_angle_bonus(angle: f64) -> f64
     )
 }
 
-// Penalizes angle repetition.
+// The bonus of an acute angle, less where the last one was acute too.
 fn acute_repeated(bonus: f64, last_angle: f64) -> f64
     ensures { λ r. ⌜ r ≡ acuteRepeated bonus «last_angle» ⌝ }
 {
@@ -105,7 +105,7 @@ fn acute_repeated(bonus: f64, last_angle: f64) -> f64
     bonus * (0.08 + 0.92 * (1.0 - num_floats::min(bonus, cubed)))
 }
 
-// Where rhythms are the same, above 300 beats per minute and more than one diameter.
+// The bonus of an acute angle, where rhythms are the same, above 300 beats per minute and more than one diameter.
 fn acute(curr: OsuDifficultyObject, last: OsuDifficultyObject, angle_bonus: f64) -> f64
     ensures { λ r. ⌜ r ≡ acuteOf curr last «angle_bonus» ⌝ }
 {
@@ -125,7 +125,7 @@ fn acute(curr: OsuDifficultyObject, last: OsuDifficultyObject, angle_bonus: f64)
     0.0
 }
 
-// In full for more than one diameter.
+// The bonus of a wide angle, in full for more than one diameter.
 fn wide(curr: OsuDifficultyObject, last: OsuDifficultyObject, angle_bonus: f64) -> f64
     ensures { λ r. ⌜ r ≡ wideOf curr last «angle_bonus» ⌝ }
 {
@@ -135,7 +135,7 @@ fn wide(curr: OsuDifficultyObject, last: OsuDifficultyObject, angle_bonus: f64) 
     bonus * (1.0 - num_floats::min(bonus, cubed)) * (angle_bonus * far)
 }
 
-// For jumps from a radius to three diameters, with angles below 110 degrees.
+// The bonus of wiggling: jumps from a radius to three diameters, with angles below 110 degrees.
 fn wiggle(curr: OsuDifficultyObject, last: OsuDifficultyObject, angle_bonus: f64) -> f64
     ensures { λ r. ⌜ r ≡ wiggleOf curr last «angle_bonus» ⌝ }
 {
@@ -159,7 +159,7 @@ fn wiggle(curr: OsuDifficultyObject, last: OsuDifficultyObject, angle_bonus: f64
     angle_bonus * c1 * c2 * c3 * l1 * l2 * l3
 }
 
-// Less for a wide angle whose ends lie within 1 of each other.
+// The bonus of a wide angle, less where its ends lie within 1 of each other.
 fn close(wide: f64, has_last_2: bool, distance: f32) -> f64
     ensures { λ r. ⌜ r ≡ closeOf wide «has_last_2» distance ⌝ }
 {
@@ -195,7 +195,7 @@ fn angle_bonuses(
     }
 }
 
-// From the velocities over the whole objects and the two adjusted times.
+// The bonus of a change between two velocities over the whole objects, by the two adjusted times.
 fn change(prev_vel: f64, curr_vel: f64, curr_time: f64, last_time: f64) -> f64
     ensures { λ r. ⌜ r ≡ changeOf «prev_vel» «curr_vel» «curr_time» «last_time» ⌝ }
 {
@@ -278,7 +278,7 @@ impl AimParts {
         }
     }
 
-    // The Rust's last lines.
+    // The value of all parts together.
     pub fn combine(self, with_slider_travel_dist: bool) -> f64
         ensures { λ r. ⌜ r ≡ combineOf self «with_slider_travel_dist» ⌝ }
     {
