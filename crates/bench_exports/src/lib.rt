@@ -87,6 +87,7 @@ pub extern "C" fn rattle_check(chart: &[u8], entries: usize) -> u64 {
     }
 }
 
+// A refusal as one number.
 fn code(number: usize, place: usize) -> u64 {
     (number % 16) as u64 * 0x1_0000_0000 + (place % 0x1_0000_0000) as u64
 }
@@ -108,6 +109,7 @@ fn value_at(which: usize, t: &[f64], chart: &[u8], lay: Layout, set: Settings, j
     light.evaluate_place(t, chart, lay, j, set.hidden)
 }
 
+// The sum of one evaluator's values over all places.
 fn sum_values(which: usize, t: &[f64], chart: &[u8], lay: Layout, set: Settings) -> f64
     requires { ⌜ Ready (now chart) lay × (16 * lay .n ≤ length (now t)) ⌝ }
 {

@@ -28,6 +28,7 @@ fn from_one(k: usize) -> usize
     if k < 1 { 1 } else { k }
 }
 
+// The smaller of two numbers.
 fn smaller(a: usize, b: usize) -> usize
     ensures { λ r. ⌜ r ≡ min a b ⌝ }
 {
@@ -133,6 +134,7 @@ pub fn replace(
     }
 }
 
+// The larger of two numbers.
 fn larger(a: usize, b: usize) -> usize
     ensures { λ r. ⌜ r ≡ max a b ⌝ }
 {

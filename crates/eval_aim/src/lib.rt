@@ -75,6 +75,7 @@ fn velocity(curr: OsuDifficultyObject, last: OsuDifficultyObject, slider: bool) 
     vel
 }
 
+// How wide an angle is: 0 up to 40 degrees, 1 from 140 on.
 fn calc_wide_angle_bonus(angle: f64) -> f64
     ensures { λ r. ⌜ r ≡ wideAngle angle ⌝ }
 {
@@ -85,6 +86,7 @@ fn calc_wide_angle_bonus(angle: f64) -> f64
     )
 }
 
+// How acute an angle is: 0 from 140 degrees on, 1 up to 40.
 fn calc_acute_angle_bonus(angle: f64) -> f64
     ensures { λ r. ⌜ r ≡ acuteAngle angle ⌝ }
 {
@@ -95,7 +97,7 @@ fn calc_acute_angle_bonus(angle: f64) -> f64
     )
 }
 
-// Penalizes angle repetition.
+// The bonus of an acute angle, less where the last one was acute too.
 fn acute_repeated(bonus: f64, last_angle: f64) -> f64
     ensures { λ r. ⌜ r ≡ acuteRepeated bonus «last_angle» ⌝ }
 {
@@ -103,7 +105,7 @@ fn acute_repeated(bonus: f64, last_angle: f64) -> f64
     bonus * (0.08 + 0.92 * (1.0 - num_floats::min(bonus, cubed)))
 }
 
-// Where rhythms are the same, above 300 beats per minute and more than one diameter.
+// The bonus of an acute angle, where rhythms are the same, above 300 beats per minute and more than one diameter.
 fn acute(curr: OsuDifficultyObject, last: OsuDifficultyObject, angle_bonus: f64) -> f64
     ensures { λ r. ⌜ r ≡ acuteOf curr last «angle_bonus» ⌝ }
 {
@@ -123,7 +125,7 @@ fn acute(curr: OsuDifficultyObject, last: OsuDifficultyObject, angle_bonus: f64)
     0.0
 }
 
-// In full for more than one diameter.
+// The bonus of a wide angle, in full for more than one diameter.
 fn wide(curr: OsuDifficultyObject, last: OsuDifficultyObject, angle_bonus: f64) -> f64
     ensures { λ r. ⌜ r ≡ wideOf curr last «angle_bonus» ⌝ }
 {
@@ -133,7 +135,7 @@ fn wide(curr: OsuDifficultyObject, last: OsuDifficultyObject, angle_bonus: f64) 
     bonus * (1.0 - num_floats::min(bonus, cubed)) * (angle_bonus * far)
 }
 
-// For jumps from a radius to three diameters, with angles below 110 degrees.
+// The bonus of wiggling: jumps from a radius to three diameters, with angles below 110 degrees.
 fn wiggle(curr: OsuDifficultyObject, last: OsuDifficultyObject, angle_bonus: f64) -> f64
     ensures { λ r. ⌜ r ≡ wiggleOf curr last «angle_bonus» ⌝ }
 {
@@ -157,7 +159,7 @@ fn wiggle(curr: OsuDifficultyObject, last: OsuDifficultyObject, angle_bonus: f64
     angle_bonus * c1 * c2 * c3 * l1 * l2 * l3
 }
 
-// Less for a wide angle whose ends lie within 1 of each other.
+// The bonus of a wide angle, less where its ends lie within 1 of each other.
 fn close(wide: f64, has_last_2: bool, distance: f32) -> f64
     ensures { λ r. ⌜ r ≡ closeOf wide «has_last_2» distance ⌝ }
 {
@@ -169,6 +171,7 @@ fn close(wide: f64, has_last_2: bool, distance: f32) -> f64
     wide
 }
 
+// The bonuses of wide, acute and wiggling angles; none where an angle is missing.
 fn angle_bonuses(
     curr: OsuDifficultyObject,
     last: OsuDifficultyObject,
@@ -192,7 +195,7 @@ fn angle_bonuses(
     }
 }
 
-// From the velocities over the whole objects and the two adjusted times.
+// The bonus of a change between two velocities over the whole objects, by the two adjusted times.
 fn change(prev_vel: f64, curr_vel: f64, curr_time: f64, last_time: f64) -> f64
     ensures { λ r. ⌜ r ≡ changeOf «prev_vel» «curr_vel» «curr_time» «last_time» ⌝ }
 {
@@ -208,6 +211,7 @@ fn change(prev_vel: f64, curr_vel: f64, curr_time: f64, last_time: f64) -> f64
     overlap_vel_buff * dist_ratio * num_elementary::power(bonus_base, 2.0)
 }
 
+// The bonus of a change of velocity; 0 where both velocities are.
 fn vel_change(
     curr: OsuDifficultyObject,
     last: OsuDifficultyObject,
@@ -228,6 +232,7 @@ fn vel_change(
     0.0
 }
 
+// The velocity along the last object where it is a slider, else 0.
 fn slider_bonus(last: OsuDifficultyObject, slider: bool) -> f64
     ensures { λ r. ⌜ r ≡ sliderBonus last slider ⌝ }
 {
@@ -256,6 +261,7 @@ fn rule(acute: f64, wide: f64) -> AimRule
 }
 
 impl AimParts {
+    // All parts 0, with the rule that decided.
     fn none(rule: AimRule) -> Self
         ensures { λ r. ⌜ r ≡ noParts rule ⌝ }
     {
@@ -272,7 +278,7 @@ impl AimParts {
         }
     }
 
-    // The Rust's last lines.
+    // The value of all parts together.
     pub fn combine(self, with_slider_travel_dist: bool) -> f64
         ensures { λ r. ⌜ r ≡ combineOf self «with_slider_travel_dist» ⌝ }
     {

@@ -66,7 +66,7 @@ fn repeated(count: f64, obj: OsuDifficultyObject, curr: OsuDifficultyObject, i: 
     count
 }
 
-// There are no approach circles with hidden.
+// The result, more with hidden, for there are no approach circles then.
 fn with_hidden(result: f64, hidden: bool) -> f64
     ensures { λ r. ⌜ r ≡ hiddenOf result hidden ⌝ }
 {
@@ -76,7 +76,7 @@ fn with_hidden(result: f64, hidden: bool) -> f64
     result
 }
 
-// Less for a slider with repeats, of which less has to be remembered.
+// A slider's bonus, less for one with repeats, of which less has to be remembered.
 fn shared(bonus: f64, repeat_count: u32) -> f64
     requires { ⌜ «repeat_count» ≤ 65536 ⌝ }
     ensures { λ r. ⌜ r ≡ sharedOf bonus «repeat_count» ⌝ }
@@ -95,6 +95,7 @@ fn turns(i: usize) -> usize
 }
 
 impl FlashlightState {
+    // Before the first record.
     fn new() -> Self
         ensures { λ r. ⌜ r ≡ freshState ⌝ }
     {
@@ -217,7 +218,7 @@ impl FlashlightEvaluator {
         s
     }
 
-    // By the velocity and length of the true travel, which does not depend on circle size.
+    // A slider's bonus: by the velocity and length of the true travel, which does not depend on circle size.
     fn slider_bonus(self, curr: OsuDifficultyObject, slider: bool, repeat_count: u32) -> f64
         requires { ⌜ «repeat_count» ≤ 65536 ⌝ }
         ensures { λ r. ⌜ r ≡ sliderBonus self curr slider «repeat_count» ⌝ }
@@ -236,7 +237,7 @@ impl FlashlightEvaluator {
         0.0
     }
 
-    // After the walk.
+    // The value after the walk.
     fn value(
         self,
         s: FlashlightState,

@@ -8,7 +8,6 @@ use mathlib.Core.Bool.{Bool, true, false, cond, not}
 use mathlib.Core.List.{List}
 use lib.Dec.{ltb}
 use lib.ListN.{set, replicate}
-use lib.IntN.{pos}
 use lib.Ieee as Ieee
 use lib.Ieee.{Float, lt}
 use Rattle.num_floats.specs.Numbers.{_⊕_, _⊖_, zero64}

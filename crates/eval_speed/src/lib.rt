@@ -29,6 +29,7 @@ fn strain_time(adjusted: f64, hit_window: f64) -> f64
     adjusted / num_floats::clamp(adjusted / hit_window / 0.93, 0.92, 1.0)
 }
 
+// What a strain time adds that is shorter than that of 200 beats a minute.
 fn speed_bonus(strain_time: f64) -> f64
     ensures { λ r. ⌜ r ≡ speedBonus «strain_time» ⌝ }
 {
@@ -48,6 +49,7 @@ fn speed_bonus(strain_time: f64) -> f64
     0.0
 }
 
+// What the distance adds; 0 under autopilot.
 fn dist_bonus(dist: f64, small_circle_bonus: f64, autopilot: bool) -> f64
     ensures { λ r. ⌜ r ≡ distBonus dist «small_circle_bonus» autopilot ⌝ }
 {

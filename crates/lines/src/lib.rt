@@ -18,6 +18,7 @@ pub fn put_f64(out: &mut [u8], at: usize, x: f64) -> usize
     text::put_f64(out, end, x)
 }
 
+// A space and the bits of an f32.
 fn put_f32(out: &mut [u8], at: usize, x: f32) -> usize
     ensures { λ r. ⌜ Puts (narrowText x) (now (out .entry)) at (now (out .exit)) r ⌝ }
 {
@@ -25,6 +26,7 @@ fn put_f32(out: &mut [u8], at: usize, x: f32) -> usize
     text::put_f32(out, end, x)
 }
 
+// A space and 1 or 0.
 fn put_flag(out: &mut [u8], at: usize, flag: bool) -> usize
     ensures { λ r. ⌜ Puts (flagText flag) (now (out .entry)) at (now (out .exit)) r ⌝ }
 {

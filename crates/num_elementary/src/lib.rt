@@ -174,8 +174,7 @@ pub fn roots() -> [u64; 40]
 }
 
 // P of Two for the fraction f / 2^40: 2^62 times the roots T(j) at whose place f has a bit. Only the bits that are set take a
-// turn: where they stand does not wait for P, and no branch but the last depends on them. A constant array is written to the
-// stack at each use, so it is taken once, before the loop.
+// turn. A constant array is written to the stack at each use, so it is taken once, before the loop.
 fn two_bits(f: u64) -> u64
     ensures { λ r. ⌜ (r ≡ twoBits 40 f (2 ^ 62)) × (2 ^ 62 ≤ r) × (r < 2 ^ 63 - 2 ^ 9) ⌝ }
 {

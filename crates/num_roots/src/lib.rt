@@ -81,6 +81,7 @@ fn near_root(n: u64) -> u64
     num_floats::bits_of_f64(x * y3 * 2.0 + num_floats::TWO_52) % 0x8000_0000
 }
 
+// The number below s, 0 for 0.
 fn one_less(s: u64) -> u64
     ensures { λ r. ⌜ r ≤ s ⌝ }
 {

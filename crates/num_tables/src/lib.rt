@@ -41,6 +41,7 @@ pub fn move_numbers_up(t: &mut [f64], from: usize, to: usize, n: usize)
     }
 }
 
+// Copies the n numbers from place from on to a place to that is no higher, the first one first.
 pub fn move_numbers_down(t: &mut [f64], from: usize, to: usize, n: usize)
     requires { ⌜ (to ≤ from) × (from + n ≤ length (now t)) ⌝ }
     ensures { λ _. ⌜ now (t .exit) ≡ moved from to n (now (t .entry)) ⌝ }

@@ -94,6 +94,7 @@ fn insert(s: &mut [u8], out: &mut [u8], place: usize) {
     );
 }
 
+// Takes the object at a place out, and shows the answer.
 fn remove(s: &mut [u8], out: &mut [u8], place: usize) {
     answer(out, chart_inserting::remove(s, place, MOST), b"removed\n");
 }

@@ -71,10 +71,12 @@ fn answer(out: &mut [u8], at: usize, f: u8, x: u64, y: u64, z: u64) -> usize {
     }
 }
 
+// The root of the f32 with the bits of the lower half of x.
 fn root32_of(x: u64) -> f32 {
     num_roots::root32(num_floats::f32_of_bits((x % 0x1_0000_0000) as u32))
 }
 
+// 1 or 0 as a character.
 fn told(b: bool) -> u8 {
     if b { b'1' } else { b'0' }
 }

@@ -35,6 +35,7 @@ fn position(path: &[u8], count: usize, stated: f64, progress: f64) -> Pos
     osu_object::position_at(path, lay, run, stated, progress)
 }
 
+// Writes a position as one line.
 fn show(p: Pos) {
     let mut line = [0u8; 32];
     let mut end = text::put_f32(&mut line[..], 0, p.x);
@@ -69,6 +70,7 @@ fn answer(path: &mut [u8]) -> bool
     true
 }
 
+// Lookups to the end of the input.
 fn run(path: &mut [u8])
     requires { ⌜ 1128 ≤ length (now path) ⌝ }
 {

@@ -7,6 +7,7 @@ use chart_opening::Verdict;
 // Charts that are read at most, and calls on each.
 const MOST: usize = 65536;
 
+// The line of an answer.
 fn put_verdict(out: &mut [u8], v: Verdict) -> usize {
     match v {
         Verdict::Accepted => text::put_all(out, 0, b"accepted\n"),
@@ -27,6 +28,7 @@ fn call(out: &mut [u8], chart: &mut [u8], object: &mut [u8]) {
     text::show(out, end);
 }
 
+// A byte as a larger number.
 fn wide(x: u8) -> u32
     ensures { λ r. ⌜ r < 256 ⌝ }
 {
@@ -46,6 +48,7 @@ fn checksum(s: &[u8]) -> u32 {
     b % 65521 * 0x1_0000 + a % 65521
 }
 
+// Writes the line of a chart's checksum.
 fn show_checksum(out: &mut [u8], chart: &[u8]) {
     let word = text::put_all(out, 0, b"chart ");
     let end = text::put_hex32(out, word, checksum(chart));

@@ -11,6 +11,7 @@ use eval_rhythm::Counted;
 // Charts that are read at most.
 const MOST: usize = 65536;
 
+// The larger of two numbers.
 fn larger(a: usize, b: usize) -> usize {
     if a < b { b } else { a }
 }

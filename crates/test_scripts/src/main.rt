@@ -33,6 +33,7 @@ const VALUE_WIDTH: usize = 5;
 // What all scratch holds before a call.
 const UNUSED: f64 = 7.5;
 
+// A byte as a larger number.
 fn wide(x: u8) -> u64 {
     x as u64
 }
@@ -95,6 +96,7 @@ fn put_verdict(
     }
 }
 
+// Opens the chart into tables of the lengths that follow, and puts the answer's line.
 fn open(out: &mut [u8], at: usize, chart: &[u8], records: &mut [f64], values: &mut [f64]) -> usize {
     let r = text::next_length(records.len());
     let v = text::next_length(values.len());
@@ -120,6 +122,7 @@ fn carry_out(
     }
 }
 
+// Carries out one edit on tables of the lengths that follow, and puts the answer's line.
 fn edit(
     out: &mut [u8],
     at: usize,
@@ -163,6 +166,7 @@ fn read_and_edit(
     edit(out, at, kind, chart, place, &object[0..n], records, values)
 }
 
+// Reads a record, and puts its line.
 fn record(out: &mut [u8], at: usize, chart: &[u8], records: &[f64]) -> usize {
     let place = text::next_long() as usize;
     let r = text::next_length(records.len());
@@ -175,6 +179,7 @@ fn record(out: &mut [u8], at: usize, chart: &[u8], records: &[f64]) -> usize {
     }
 }
 
+// Reads a place's values, and puts their line.
 fn value(out: &mut [u8], at: usize, chart: &[u8], values: &[f64]) -> usize {
     let place = text::next_long() as usize;
     let v = text::next_length(values.len());
@@ -187,6 +192,7 @@ fn value(out: &mut [u8], at: usize, chart: &[u8], values: &[f64]) -> usize {
     }
 }
 
+// Fills scratch with the mark of what is not used.
 fn mark(scratch: &mut [f64]) {
     let mut i = 0;
     while i < scratch.len() {
@@ -195,6 +201,7 @@ fn mark(scratch: &mut [f64]) {
     }
 }
 
+// The same for all four.
 fn mark_all(a: &mut [f64], b: &mut [f64], c: &mut [f64], d: &mut [f64]) {
     mark(a);
     mark(b);
@@ -292,6 +299,7 @@ fn poke(out: &mut [u8], at: usize, chart: &mut [u8], bytes: &mut [u8]) -> usize 
     text::put_all(out, at, b"poked\n")
 }
 
+// The line of a chart's length and hash.
 fn put_chart(out: &mut [u8], at: usize, chart: &[u8]) -> usize {
     let word = text::put_all(out, at, b"chart ");
     let length = text::put_decimal(out, word, chart.len() as u64);
@@ -300,6 +308,7 @@ fn put_chart(out: &mut [u8], at: usize, chart: &[u8]) -> usize {
     text::put(out, end, b'\n')
 }
 
+// The line of how many bytes are lent.
 fn put_lent(out: &mut [u8], at: usize, n: usize) -> usize {
     let word = text::put_all(out, at, b"lent ");
     let length = text::put_decimal(out, word, n as u64);
@@ -312,6 +321,7 @@ fn pattern_at(pattern: &[f64], i: usize) -> f64 {
     if at < pattern.len() { pattern[at] } else { 0.0 }
 }
 
+// Fills a table with the pattern.
 fn fill(table: &mut [f64], pattern: &[f64]) {
     let mut i = 0;
     while i < table.len() {

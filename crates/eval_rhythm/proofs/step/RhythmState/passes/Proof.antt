@@ -1,23 +1,17 @@
-use borrow.Author.Tests.{le-ltb}
+-- `eval_rhythm::step::RhythmState::passes` meets its contract. Assumes nothing.
+use borrow.Author.Tests.{lt-ltb, le-ltb}
 use Rattle.eval_rhythm.specs.Step.{passesOf}
-use borrow.Author.Tests.{lt-ltb}
 use borrow.Author.Needs.{needs}
 use Rattle.eval_rhythm.proofs.step.RhythmState.passes.Statement.{statement}
 use Rattle.eval_rhythm.proofs.step.RhythmState.passes.Tie as tie
-use Rattle.eval_rhythm.proofs.step.RhythmState.passes.Reads as reads
-use Rattle.eval_rhythm.proofs.step.RhythmState.passes.Lts as lts
-use Rattle.eval_rhythm.proofs.island.RhythmIsland.same.Reads as same-reads
 
--- src/step.rt:248:14
 same-requires : tie.Need-same-requires
 same-requires c κs = search needs
 
--- src/step.rt:242:5
 returns : tie.Need-returns
 unfolding passesOf
 returns c = simp (c .same .ensures, lt-ltb _ _ (c .before .if1 .taken))
 
--- src/step.rt:242:5
 returns-2 : tie.Need-returns-2
 unfolding passesOf
 returns-2 c = simp (le-ltb _ _ (c .if1 .left))

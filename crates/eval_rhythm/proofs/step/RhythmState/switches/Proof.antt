@@ -1,21 +1,16 @@
+-- `eval_rhythm::step::RhythmState::switches` meets its contract. Assumes nothing.
 use Rattle.eval_rhythm.specs.Step.{switchesOf}
 use borrow.Author.Needs.{needs}
 use Rattle.eval_rhythm.proofs.step.RhythmState.switches.Statement.{statement}
 use Rattle.eval_rhythm.proofs.step.RhythmState.switches.Tie as tie
-use Rattle.eval_rhythm.proofs.step.RhythmState.switches.Reads as reads
-use Rattle.eval_rhythm.proofs.step.RhythmState.switches.Lts as lts
-use Rattle.num_floats.proofs.abs.Reads as abs-reads
 
--- src/step.rt:235:15
 abs-requires : tie.Need-abs-requires
 abs-requires c κs = search needs
 
--- src/step.rt:231:5
 returns : tie.Need-returns
 unfolding switchesOf
 returns c = simp (c .abs .ensures, c .before .before .if1 .taken)
 
--- src/step.rt:231:5
 returns-2 : tie.Need-returns-2
 unfolding switchesOf
 returns-2 c = simp (c .if1 .left)
