@@ -6,6 +6,9 @@ pub const RECORD_WIDTH: usize = 16;
 
 pub const VALUE_WIDTH: usize = 5;
 
+// Numbers of an entry of the list of totals while playing.
+pub const TOTALS_WIDTH: usize = 4;
+
 // The least scratch of a skill.
 pub const LEAST_SCRATCH: usize = 8192;
 

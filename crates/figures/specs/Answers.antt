@@ -7,11 +7,13 @@ use Rattle.chart_fields.specs.Limits.{headerSize, mostObjects}
 use Rattle.chart_fields.specs.Objects.{Holds}
 use Rattle.chart_opening.specs.Header.{layoutOf}
 use Rattle.calls.specs.Tables.{valueWidth, leastScratch}
-use Rattle.calls.specs.Afresh.{totalsAre, ratingsAre}
+use Rattle.calls.specs.Afresh.{totalsAre, countsAre, ratingsAre}
 use Rattle.calls.specs.Conditions.{Scratch, Lengths}
 use Rattle.calls.specs.Calls.{Answer, refused, figureIs}
 use Rattle.figures.specs.declared.TotalsAnswer.{TotalsAnswer}
 use Rattle.figures.specs.declared.TotalsAnswer.the-variants as OfTotals
+use Rattle.figures.specs.declared.CountsAnswer.{CountsAnswer}
+use Rattle.figures.specs.declared.CountsAnswer.the-variants as OfCounts
 use Rattle.figures.specs.declared.RatingsAnswer.{RatingsAnswer}
 use Rattle.figures.specs.declared.RatingsAnswer.the-variants as OfRatings
 
@@ -37,6 +39,10 @@ scratchOf aim aimNoSliders speed flashlight = record { aim = aim; aimNoSliders =
 abbrev pub totalsAnswer : TotalsAnswer → Answer
 totalsAnswer (OfTotals.Totals t) = figureIs (totalsAre t)
 totalsAnswer (OfTotals.Refused r) = refused r
+
+abbrev pub countsAnswer : CountsAnswer → Answer
+countsAnswer (OfCounts.Counts c) = figureIs (countsAre c)
+countsAnswer (OfCounts.Refused r) = refused r
 
 abbrev pub ratingsAnswer : RatingsAnswer → Answer
 ratingsAnswer (OfRatings.Ratings x) = figureIs (ratingsAre x)

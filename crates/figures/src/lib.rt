@@ -2,25 +2,37 @@
 // condition of its list that is met and changes nothing, or is carried out and leaves all scratch 0. Times come from the chart.
 ghost use mathlib.Core.Path.{_≡_};
 ghost use mathlib.Core.List.{[]};
+ghost use Prim.Native.Nat.{_+_, _*_, _/_, _≤_};
 ghost use lib.ListN.{length};
+ghost use Rattle.num_tables.specs.Parts.{fill};
+ghost use Rattle.chart_fields.specs.Limits.{mostObjects};
 ghost use Rattle.chart_opening.specs.Header.{layoutOf, settingsOf};
 ghost use Rattle.skills.specs.Chart.{totalsOf};
+ghost use Rattle.skills_counts.specs.Chart.{countsOf};
+ghost use Rattle.skills_playing.specs.Playing.{totalsAfter, rowAfter};
 ghost use Rattle.star_rating.specs.Stars.{ratingsOf};
-ghost use Rattle.calls.specs.Tables.{valueEntries};
+ghost use Rattle.calls.specs.Tables.{valueEntries, totalsWidth};
 ghost use Rattle.calls.specs.Afresh as kinds;
 ghost use Rattle.calls.specs.Conditions as ops;
 ghost use Rattle.calls.specs.Conditions.{lengths, scratchShort, sumVerdict};
-ghost use Rattle.calls.specs.Calls.{state, result, outcome, cleared, scratchAfter};
-ghost use Rattle.figures.specs.Answers.{Sums, Counted, scratchOf, totalsAnswer, ratingsAnswer};
+ghost use Rattle.calls.specs.Calls.{state, result, verdictIn, outcome, cleared, scratchAfter, listAfter};
+ghost use Rattle.figures.specs.Answers.{Sums, Counted, scratchOf, totalsAnswer, countsAnswer, ratingsAnswer};
 use chart_opening::Refusal;
 use chart_opening::Verdict;
 use skills::Skills;
+use skills_counts::ObjectCounts;
 use star_rating::Asked;
 use star_rating::Ratings;
 
 // The four totals, or why they are not worked out.
 pub enum TotalsAnswer {
     Totals(Skills),
+    Refused(Refusal),
+}
+
+// The seven counts, or why they are not worked out.
+pub enum CountsAnswer {
+    Counts(ObjectCounts),
     Refused(Refusal),
 }
 
@@ -134,13 +146,223 @@ pub fn totals(
     }
 }
 
+// The number of objects.
+fn count_of(chart: &[u8]) -> usize
+    requires { ⌜ Counted (now chart) ⌝ }
+    ensures { λ r. ⌜ (r ≡ layoutOf (now (chart .entry)) .n) × (r ≤ mostObjects) ⌝ }
+{
+    chart_opening::layout_of(chart).n
+}
+
+// The seven counts of a chart that meets none of conditions 1 to 7.
+fn counts_of(
+    chart: &[u8],
+    values: &[f64],
+    aim: &mut [f64],
+    aim_no_sliders: &mut [f64],
+    speed: &mut [f64],
+    flashlight: &mut [f64],
+) -> ObjectCounts
+    requires { ⌜ Sums (now chart) (length (now values))
+        (lengths (scratchOf (now aim) (now «aim_no_sliders») (now speed) (now flashlight))) ⌝ }
+    ensures result { λ r. ⌜ r
+        ≡ countsOf (now (chart .entry)) (layoutOf (now (chart .entry))) (settingsOf (now (chart .entry)) .«clock_rate») (now (values .entry)) ⌝ }
+    ensures scratch { λ _. ⌜ scratchOf (now (aim .exit)) (now («aim_no_sliders» .exit)) (now (speed .exit)) (now (flashlight .exit))
+        ≡ cleared (scratchOf (now (aim .entry)) (now («aim_no_sliders» .entry)) (now (speed .entry)) (now (flashlight .entry))) ⌝ }
+{
+    let lay = chart_opening::layout_of(chart);
+    let clock = chart_opening::settings_at(chart, calls::SETTINGS_AT).clock_rate;
+    skills_counts::counts(
+        chart,
+        lay,
+        clock,
+        values,
+        aim,
+        aim_no_sliders,
+        speed,
+        flashlight,
+    )
+}
+
+// How many objects carry the chart: the seven counts, over the values in the table.
+pub fn counts(
+    chart: &[u8],
+    values: &[f64],
+    aim: &mut [f64],
+    aim_no_sliders: &mut [f64],
+    speed: &mut [f64],
+    flashlight: &mut [f64],
+) -> CountsAnswer
+    ensures answer { λ r. ⌜ result (countsAnswer r) (now (chart .exit)) [] (now (values .exit))
+        ≡ outcome (ops.figure kinds.counts (lengths (scratchOf (now (aim .entry)) (now («aim_no_sliders» .entry)) (now (speed .entry)) (now (flashlight .entry)))))
+        (state (now (chart .entry)) [] (now (values .entry))) ⌝ }
+    ensures scratch { λ _. ⌜ scratchOf (now (aim .exit)) (now («aim_no_sliders» .exit)) (now (speed .exit)) (now (flashlight .exit))
+        ≡ scratchAfter kinds.counts (state (now (chart .entry)) [] (now (values .entry)))
+        (scratchOf (now (aim .entry)) (now («aim_no_sliders» .entry)) (now (speed .entry)) (now (flashlight .entry))) ⌝ }
+{
+    match check_lent(
+        chart,
+        values.len(),
+        aim.len(),
+        aim_no_sliders.len(),
+        speed.len(),
+        flashlight.len(),
+    ) {
+        Verdict::Refused(r) => CountsAnswer::Refused(r),
+        Verdict::Accepted => {
+            let c = counts_of(chart, values, aim, aim_no_sliders, speed, flashlight);
+            CountsAnswer::Counts(c)
+        }
+    }
+}
+
+// The totals after the first m objects of a chart that meets none of conditions 1 to 7 and has as many.
+fn reached_of(
+    chart: &[u8],
+    values: &[f64],
+    m: usize,
+    aim: &mut [f64],
+    aim_no_sliders: &mut [f64],
+    speed: &mut [f64],
+    flashlight: &mut [f64],
+) -> Skills
+    requires { ⌜ Sums (now chart) (length (now values))
+        (lengths (scratchOf (now aim) (now «aim_no_sliders») (now speed) (now flashlight))) ⌝ }
+    requires { ⌜ m ≤ layoutOf (now chart) .n ⌝ }
+    ensures result { λ r. ⌜ r
+        ≡ totalsAfter (now (chart .entry)) (layoutOf (now (chart .entry))) (settingsOf (now (chart .entry)) .«clock_rate») (now (values .entry)) m ⌝ }
+    ensures scratch { λ _. ⌜ scratchOf (now (aim .exit)) (now («aim_no_sliders» .exit)) (now (speed .exit)) (now (flashlight .exit))
+        ≡ cleared (scratchOf (now (aim .entry)) (now («aim_no_sliders» .entry)) (now (speed .entry)) (now (flashlight .entry))) ⌝ }
+{
+    let lay = chart_opening::layout_of(chart);
+    let clock = chart_opening::settings_at(chart, calls::SETTINGS_AT).clock_rate;
+    skills_playing::totals_to(
+        chart,
+        lay,
+        clock,
+        values,
+        m,
+        aim,
+        aim_no_sliders,
+        speed,
+        flashlight,
+    )
+}
+
+// The totals reached after the first m objects, over the values in the table.
+pub fn totals_to(
+    chart: &[u8],
+    values: &[f64],
+    m: usize,
+    aim: &mut [f64],
+    aim_no_sliders: &mut [f64],
+    speed: &mut [f64],
+    flashlight: &mut [f64],
+) -> TotalsAnswer
+    ensures answer { λ r. ⌜ result (totalsAnswer r) (now (chart .exit)) [] (now (values .exit))
+        ≡ outcome (ops.figure (kinds.totalsTo m) (lengths (scratchOf (now (aim .entry)) (now («aim_no_sliders» .entry)) (now (speed .entry)) (now (flashlight .entry)))))
+        (state (now (chart .entry)) [] (now (values .entry))) ⌝ }
+    ensures scratch { λ _. ⌜ scratchOf (now (aim .exit)) (now («aim_no_sliders» .exit)) (now (speed .exit)) (now (flashlight .exit))
+        ≡ scratchAfter (kinds.totalsTo m) (state (now (chart .entry)) [] (now (values .entry)))
+        (scratchOf (now (aim .entry)) (now («aim_no_sliders» .entry)) (now (speed .entry)) (now (flashlight .entry))) ⌝ }
+{
+    match check_lent(
+        chart,
+        values.len(),
+        aim.len(),
+        aim_no_sliders.len(),
+        speed.len(),
+        flashlight.len(),
+    ) {
+        Verdict::Refused(r) => TotalsAnswer::Refused(r),
+        Verdict::Accepted => {
+            if count_of(chart) < m {
+                return TotalsAnswer::Refused(Refusal::Place);
+            }
+            let t = reached_of(chart, values, m, aim, aim_no_sliders, speed, flashlight);
+            TotalsAnswer::Totals(t)
+        }
+    }
+}
+
+// Fills the list for a chart that meets none of conditions 1 to 7.
+fn fill_list(
+    chart: &[u8],
+    values: &[f64],
+    list: &mut [f64],
+    aim: &mut [f64],
+    aim_no_sliders: &mut [f64],
+    speed: &mut [f64],
+    flashlight: &mut [f64],
+)
+    requires { ⌜ Sums (now chart) (length (now values))
+        (lengths (scratchOf (now aim) (now «aim_no_sliders») (now speed) (now flashlight))) ⌝ }
+    requires { ⌜ totalsWidth * (layoutOf (now chart) .n + 1) ≤ length (now list) ⌝ }
+    ensures list { λ _. ⌜ now (list .exit) ≡ fill totalsWidth
+        (rowAfter (now (chart .entry)) (layoutOf (now (chart .entry))) (settingsOf (now (chart .entry)) .«clock_rate») (now (values .entry)))
+        0 (layoutOf (now (chart .entry)) .n + 1) (now (list .entry)) ⌝ }
+    ensures scratch { λ _. ⌜ scratchOf (now (aim .exit)) (now («aim_no_sliders» .exit)) (now (speed .exit)) (now (flashlight .exit))
+        ≡ cleared (scratchOf (now (aim .entry)) (now («aim_no_sliders» .entry)) (now (speed .entry)) (now (flashlight .entry))) ⌝ }
+{
+    let lay = chart_opening::layout_of(chart);
+    let clock = chart_opening::settings_at(chart, calls::SETTINGS_AT).clock_rate;
+    skills_playing::totals_while_playing(
+        chart,
+        lay,
+        clock,
+        values,
+        list,
+        aim,
+        aim_no_sliders,
+        speed,
+        flashlight,
+    );
+}
+
+// The totals reached after every number of objects from 0 to N, each in its entry of the list, over the values in the table.
+pub fn totals_while_playing(
+    chart: &[u8],
+    values: &[f64],
+    list: &mut [f64],
+    aim: &mut [f64],
+    aim_no_sliders: &mut [f64],
+    speed: &mut [f64],
+    flashlight: &mut [f64],
+) -> Verdict
+    ensures answer { λ r. ⌜ r ≡ verdictIn (ops.figure (kinds.playing (length (now (list .entry)) / totalsWidth)) (lengths (scratchOf (now (aim .entry)) (now («aim_no_sliders» .entry)) (now (speed .entry)) (now (flashlight .entry)))))
+        (state (now (chart .entry)) [] (now (values .entry))) ⌝ }
+    ensures list { λ _. ⌜ now (list .exit) ≡ listAfter (outcome (ops.figure (kinds.playing (length (now (list .entry)) / totalsWidth)) (lengths (scratchOf (now (aim .entry)) (now («aim_no_sliders» .entry)) (now (speed .entry)) (now (flashlight .entry)))))
+        (state (now (chart .entry)) [] (now (values .entry))) .answer) (now (list .entry)) ⌝ }
+    ensures leaves { λ _. ⌜ state (now (chart .exit)) [] (now (values .exit)) ≡ state (now (chart .entry)) [] (now (values .entry)) ⌝ }
+    ensures scratch { λ _. ⌜ scratchOf (now (aim .exit)) (now («aim_no_sliders» .exit)) (now (speed .exit)) (now (flashlight .exit))
+        ≡ scratchAfter (kinds.playing (length (now (list .entry)) / totalsWidth)) (state (now (chart .entry)) [] (now (values .entry)))
+        (scratchOf (now (aim .entry)) (now («aim_no_sliders» .entry)) (now (speed .entry)) (now (flashlight .entry))) ⌝ }
+{
+    match check_lent(
+        chart,
+        values.len(),
+        aim.len(),
+        aim_no_sliders.len(),
+        speed.len(),
+        flashlight.len(),
+    ) {
+        Verdict::Refused(r) => Verdict::Refused(r),
+        Verdict::Accepted => {
+            if list.len() / calls::TOTALS_WIDTH < count_of(chart) + 1 {
+                return Verdict::Refused(Refusal::Table);
+            }
+            fill_list(chart, values, list, aim, aim_no_sliders, speed, flashlight);
+            Verdict::Accepted
+        }
+    }
+}
+
 // The ratings and the stars of a chart's totals.
 fn rate(chart: &[u8], totals: Skills, asked: Asked) -> Ratings
     requires { ⌜ Counted (now chart) ⌝ }
     ensures { λ r. ⌜ r ≡ ratingsOf totals (layoutOf (now (chart .entry)) .n) asked ⌝ }
 {
-    let n = chart_opening::layout_of(chart).n;
-    star_rating::eval(totals, n as u32, asked)
+    star_rating::eval(totals, count_of(chart) as u32, asked)
 }
 
 // The ratings and the stars under the mods and with the numbers that come with the call, over the values in the table.
