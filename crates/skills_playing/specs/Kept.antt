@@ -16,7 +16,7 @@ use Rattle.skills_playing.specs.declared.Four.{Four}
 use Rattle.skills_peaks.specs.Peaks.{Sorted, withPeak, valueOfSorted}
 use Rattle.chart_fields.specs.declared.Layout.{Layout}
 
--- the peaks that are kept; flashlight keeps their sum only
+-- the peaks that are kept of the closed sections: those above zero, in order; flashlight keeps their sum only
 unfoldable pub keptOf : Skill → List Float → List Float
 keptOf Aim peaks = sortDesc (positives peaks)
 keptOf AimNoSliders peaks = sortDesc (positives peaks)
@@ -30,6 +30,7 @@ keptWith AimNoSliders s x = withPeak s x
 keptWith Speed s x = withPeak s x
 keptWith Flashlight s x = s
 
+-- a skill's total, from the kept peaks, the sum of the closed sections' peaks, and the open section's peak
 unfoldable pub openTotal : Skill → List Float → Float → Float → Float
 openTotal Aim s sum peak = valueOfSorted reducedSections (withPeak s peak)
 openTotal AimNoSliders s sum peak = valueOfSorted reducedSections (withPeak s peak)
@@ -86,6 +87,7 @@ pub record FourStepped (vs : ℕ → List Float) (j : ℕ) (last start delta : F
   pub third : Stepped Speed vs j last start delta c₀ (from .speed) c (r .speed)
   pub fourth : Stepped Flashlight vs j last start delta d₀ (from .flashlight) d (r .flashlight)
 
+-- the totals after the places so far
 abbrev pub playedTotal : Skill → Played → List Float → Float
 playedTotal k s p = openTotal k (take (s .kept) p) (s .sum) (s .peak)
 
@@ -97,7 +99,7 @@ fourTotals s a b c d = record {
   flashlight = playedTotal Flashlight (s .flashlight) d;
 }
 
--- no place has a total above 0
+-- the totals where there is no place: after 0 objects and after 1
 abbrev pub noTotals : Skills
 noTotals = record { aim = zero64; «aim_no_sliders» = zero64; speed = zero64; flashlight = zero64 }
 

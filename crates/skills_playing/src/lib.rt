@@ -7,7 +7,8 @@ ghost use Rattle.num_tables.specs.Parts.{row, put, fill};
 ghost use Rattle.skills.specs.Chart.{Readable, Roomy};
 ghost use Rattle.skills_peaks.specs.Peaks.{Sorted};
 ghost use Rattle.skills_playing.specs.Playing.{totalsAfter, totalRow, rowAfter};
-ghost use Rattle.skills_playing.specs.Kept.{keptWith, openTotal, Fit, Closed, Stepped, firstPlayed, FourFit, FourStepped, fourTotals, noTotals, firstObjects};
+ghost use Rattle.skills_playing.specs.Kept.{keptWith, openTotal, Fit, Closed, Stepped, firstPlayed};
+ghost use Rattle.skills_playing.specs.Kept.{FourFit, FourStepped, fourTotals, noTotals, firstObjects};
 use chart_fields::Layout;
 use skills::Skill;
 use skills::Skills;
@@ -267,7 +268,7 @@ fn play(
     }
 }
 
-// The totals of no place.
+// The totals where there is no place: after 0 objects and after 1.
 fn no_totals() -> Skills
     ensures { λ r. ⌜ r ≡ noTotals ⌝ }
 {
