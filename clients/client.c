@@ -63,11 +63,15 @@ static uint64_t take_out(struct station *s, size_t place) {
 }
 
 static void show(struct station *s, size_t place) {
-    double out[DIFFICULTY_RECORD];
+    double out[DIFFICULTY_AIM];
     if (difficulty_guarded_read_values(s->chart, s->length, s->values, s->values_length, place, out, DIFFICULTY_VALUES) == 0)
         print_numbers("values", out, DIFFICULTY_VALUES);
     if (difficulty_guarded_read_record(s->chart, s->length, s->records, s->records_length, place, out, DIFFICULTY_RECORD) == 0)
         print_numbers("record", out, DIFFICULTY_RECORD);
+    if (difficulty_guarded_read_aim_parts(s->chart, s->length, s->records, s->records_length, place, out, DIFFICULTY_AIM) == 0)
+        print_numbers("parts", out, DIFFICULTY_AIM);
+    if (difficulty_guarded_read_rhythm(s->chart, s->length, s->records, s->records_length, place, out, DIFFICULTY_RHYTHM) == 0)
+        print_numbers("rhythm", out, DIFFICULTY_RHYTHM);
     uint64_t answer = difficulty_guarded_totals(s->chart, s->length, s->values, s->values_length,
                                                 s->scratch[0], DIFFICULTY_SCRATCH, s->scratch[1], DIFFICULTY_SCRATCH,
                                                 s->scratch[2], DIFFICULTY_SCRATCH, s->scratch[3], DIFFICULTY_SCRATCH, out, DIFFICULTY_TOTALS);

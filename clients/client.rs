@@ -1,7 +1,7 @@
 //! Opens a chart, drags one of its objects a thousand times, puts one in and takes two out, and prints what a station would show. client.c does the same.
 //! Every call is guarded: it gives the same bits whatever rounding, flushing or traps a host has set.
 mod station;
-use station::{guarded, object_size, Answer, MOST, RECORD, SCRATCH, TOTALS, VALUES};
+use station::{guarded, object_size, Answer, AIM, MOST, RECORD, RHYTHM, SCRATCH, TOTALS, VALUES};
 
 struct Station {
     chart: Vec<u8>,
@@ -29,11 +29,18 @@ fn print_numbers(what: &str, numbers: &[f64]) {
 impl Station {
     fn show(&mut self, place: usize) {
         let (mut values, mut record, mut totals) = ([0.0; VALUES], [0.0; RECORD], [0.0; TOTALS]);
+        let (mut parts, mut rhythm) = ([0.0; AIM], [0.0; RHYTHM]);
         if guarded(|| station::read_values(&self.chart, &self.values, place, &mut values)).is_ok() {
             print_numbers("values", &values);
         }
         if guarded(|| station::read_record(&self.chart, &self.records, place, &mut record)).is_ok() {
             print_numbers("record", &record);
+        }
+        if guarded(|| station::read_aim_parts(&self.chart, &self.records, place, &mut parts)).is_ok() {
+            print_numbers("parts", &parts);
+        }
+        if guarded(|| station::read_rhythm(&self.chart, &self.records, place, &mut rhythm)).is_ok() {
+            print_numbers("rhythm", &rhythm);
         }
         let scratch = self.scratch.each_mut().map(|s| &mut s[..]);
         match guarded(|| station::totals(&self.chart, &self.values, scratch, &mut totals)) {

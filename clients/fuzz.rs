@@ -2,13 +2,26 @@
 //!     fuzz SEED CALLS [FOLDER]
 //! With a folder, the charts, the calls and the answers are written there, for tools/fuzz_compare.py.
 mod station;
-use station::{object_size, Answer, Refusal, OBJECT, RECORD, SCRATCH, STATED_OBJECT, TOTALS, VALUES};
+use station::{object_size, Answer, Refusal, AIM, OBJECT, RECORD, RHYTHM, SCRATCH, STATED_OBJECT, TOTALS, VALUES};
 use std::cmp::{max, min};
 use std::fmt::Write;
 
 const HEADER: usize = 80;
 const MOST: usize = 60;
 const LARGEST: [usize; 1] = [OBJECT]; // sizes of the objects of the largest charts
+
+type Read = fn(&[u8], &[f64], usize, &mut [f64]) -> Answer;
+
+/// A reading's word and call, the numbers of an entry of its table and those of its answer.
+const READINGS: [(&str, Read, usize, usize); 4] = [
+    ("record", station::read_record, RECORD, RECORD),
+    ("value", station::read_values, VALUES, VALUES),
+    ("parts", station::read_aim_parts, RECORD, AIM),
+    ("rhythm", station::read_rhythm, RECORD, RHYTHM),
+];
+const RECORD_READ: usize = 0;
+const VALUES_READ: usize = 1;
+const AIM_READ: usize = 2;
 
 struct Random(u64);
 
@@ -185,6 +198,17 @@ fn record_words(x: &[f64]) -> String {
     words(&x[..8]) + &flag(x[14]) + &single(x[8]) + &single(x[9]) + &words(&x[10..12]) + &flag(x[15]) + &words(&x[12..14])
 }
 
+/// A reading's numbers as the oracle prints them: a rule and a count are whole.
+fn read_words(reading: usize, x: &[f64]) -> String {
+    let whole = |v: f64| format!(" {}", v as u64);
+    match reading {
+        RECORD_READ => record_words(x),
+        VALUES_READ => words(&x[..VALUES]),
+        AIM_READ => words(&x[..8]) + &whole(x[8]) + &words(&x[9..17]) + &whole(x[17]),
+        _ => words(&x[..1]) + &whole(x[1]),
+    }
+}
+
 fn same(a: &[f64], b: &[f64]) -> bool {
     a.len() == b.len() && a.iter().zip(b).all(|(x, y)| x.to_bits() == y.to_bits())
 }
@@ -207,7 +231,7 @@ fn moved_rows(w: usize, old: &[f64], new: &[f64], place: usize, n: usize, by: is
 
 #[derive(Default)]
 struct Counts {
-    calls: [u64; 7],
+    calls: [u64; 9],
     refused: [u64; 10],
     compared: u64,
 }
@@ -407,24 +431,34 @@ impl Round {
         self.edit(place, None, lengths)
     }
 
+    /// What is read of tables that a fresh opening gives: the row that the table has, or the value in it.
+    fn check_read(&self, reading: usize, place: usize, out: &[f64]) {
+        let (record, values) = (&self.records[RECORD * place..][..RECORD], &self.values[VALUES * place..][..VALUES]);
+        match reading {
+            RECORD_READ => assert!(same(&out[..RECORD], record), "the record that the table has"),
+            VALUES_READ => assert!(same(&out[..VALUES], values), "the values that the table has"),
+            AIM_READ => assert!(same(&[out[0], out[9]], &values[..2]), "aim is the table's"),
+            _ => assert!(same(&out[..1], &values[3..4]) && (0.0..=406.0).contains(&out[1]), "the rhythm value is the table's, with at most 406 comparisons"),
+        }
+    }
+
     /// A reading of either table into a slice that has room or has not.
-    fn read(&mut self, r: &mut Random, record: bool) -> Answer {
-        let (w, table) = if record { (RECORD, &self.records) } else { (VALUES, &self.values) };
-        let (place, length) = (self.place(r), self.length(r, table.len(), w));
+    fn read(&mut self, r: &mut Random, reading: usize) -> Answer {
+        let (word, read, entry, w) = READINGS[reading];
+        let table = if entry == RECORD { &self.records } else { &self.values };
+        let (place, length) = (self.place(r), self.length(r, table.len(), entry));
         let room = if r.one_in(8) { r.below(w) } else { w + r.below(3) };
-        let usable = if room < w { 0 } else { length / w };
+        let usable = if room < w { 0 } else { length / entry };
         let mut out: Vec<f64> = (0..room).map(|_| r.wild()).collect();
         let (before, chart, kept) = (out.clone(), self.chart.clone(), table.clone());
-        let read = if record { station::read_record } else { station::read_values };
         let answer = read(&self.chart, &table[..length], place, &mut out);
         assert!(chart == self.chart && same(&kept, table), "a reading changes neither chart nor table");
         let written = if answer.is_ok() { w } else { 0 };
         assert!(same(&before[written..], &out[written..]), "nothing else is written");
         if answer.is_ok() && self.fresh {
-            assert!(same(&out[..w], &table[w * place..][..w]), "the row that the table has");
+            self.check_read(reading, place, &out);
         }
-        let word = if record { "record" } else { "value" };
-        let numbers = if written == 0 { String::new() } else if record { record_words(&out) } else { words(&out[..w]) };
+        let numbers = if written == 0 { String::new() } else { read_words(reading, &out) };
         if room < w && count(&self.chart) == 0 {
             // the oracle, which is lent no slice for its answer, knows no 7 where N is 0
             assert!(matches!(answer, Err(Refusal { number: 1 | 7, .. })), "{answer:?}");
@@ -474,14 +508,13 @@ impl Round {
         if r.one_in(40) {
             self.poke(r);
         }
-        let which = [0, 1, 1, 2, 2, 3, 3, 4, 4, 5, 5, 6][r.below(12)];
+        let which = [0, 1, 1, 2, 2, 3, 3, 4, 5, 6, 6, 7, 7, 8][r.below(14)];
         let answer = match which {
             0 => self.open(r),
             1 => self.replace(r),
             2 => self.insert(r),
             3 => self.remove(r),
-            4 => self.read(r, true),
-            5 => self.read(r, false),
+            4..=7 => self.read(r, which - 4),
             _ => self.totals(r),
         };
         counts.calls[which] += 1;
@@ -552,7 +585,8 @@ fn main() {
         std::fs::write(format!("{folder}/scripts"), script).unwrap();
         std::fs::write(format!("{folder}/answers"), answers).unwrap();
     }
-    let [open, replace, insert, remove, record, value, totals] = counts.calls;
-    println!("seed {seed}: {rounds} charts; open {open}, replace {replace}, insert {insert}, remove {remove}, read record {record}, read values {value}, totals {totals}");
+    let [open, replace, insert, remove, record, value, parts, rhythm, totals] = counts.calls;
+    println!("seed {seed}: {rounds} charts; open {open}, replace {replace}, insert {insert}, remove {remove}, totals {totals}");
+    println!("read record {record}, read values {value}, read aim parts {parts}, read rhythm {rhythm}");
     println!("carried out {}, refused by number {:?}; {} of those carried out were on the chart's own tables", counts.refused[0], &counts.refused[1..], counts.compared);
 }

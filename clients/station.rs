@@ -7,6 +7,8 @@ pub const STATED_OBJECT: usize = 64;
 pub const MOST: usize = 16384;
 pub const RECORD: usize = 16;
 pub const VALUES: usize = 5;
+pub const AIM: usize = 18;
+pub const RHYTHM: usize = 2;
 pub const TOTALS: usize = 4;
 pub const SCRATCH: usize = 8192;
 
@@ -18,6 +20,8 @@ mod library {
         pub fn difficulty_remove(c: *mut u8, cl: usize, place: usize, r: *mut f64, rl: usize, v: *mut f64, vl: usize) -> u64;
         pub fn difficulty_read_record(c: *const u8, cl: usize, r: *const f64, rl: usize, place: usize, out: *mut f64, ol: usize) -> u64;
         pub fn difficulty_read_values(c: *const u8, cl: usize, v: *const f64, vl: usize, place: usize, out: *mut f64, ol: usize) -> u64;
+        pub fn difficulty_read_aim_parts(c: *const u8, cl: usize, r: *const f64, rl: usize, place: usize, out: *mut f64, ol: usize) -> u64;
+        pub fn difficulty_read_rhythm(c: *const u8, cl: usize, r: *const f64, rl: usize, place: usize, out: *mut f64, ol: usize) -> u64;
         pub fn difficulty_totals(
             c: *const u8, cl: usize, v: *const f64, vl: usize, aim: *mut f64, al: usize, still: *mut f64, nl: usize,
             speed: *mut f64, sl: usize, light: *mut f64, ll: usize, out: *mut f64, ol: usize,
@@ -74,7 +78,7 @@ pub fn answer(code: u64) -> Answer {
     if code == 0 { Ok(()) } else { Err(Refusal { number: (code >> 32) as u32, place: code as u32 }) }
 }
 
-// SAFETY of all seven: a slice's pointer and length are valid for the call, and a `&mut` overlaps nothing.
+// SAFETY of all nine: a slice's pointer and length are valid for the call, and a `&mut` overlaps nothing.
 
 pub fn open(chart: &[u8], records: &mut [f64], values: &mut [f64]) -> Answer {
     answer(unsafe {
@@ -115,6 +119,18 @@ pub fn read_record(chart: &[u8], records: &[f64], place: usize, out: &mut [f64])
 pub fn read_values(chart: &[u8], values: &[f64], place: usize, out: &mut [f64]) -> Answer {
     answer(unsafe {
         library::difficulty_read_values(chart.as_ptr(), chart.len(), values.as_ptr(), values.len(), place, out.as_mut_ptr(), out.len())
+    })
+}
+
+pub fn read_aim_parts(chart: &[u8], records: &[f64], place: usize, out: &mut [f64]) -> Answer {
+    answer(unsafe {
+        library::difficulty_read_aim_parts(chart.as_ptr(), chart.len(), records.as_ptr(), records.len(), place, out.as_mut_ptr(), out.len())
+    })
+}
+
+pub fn read_rhythm(chart: &[u8], records: &[f64], place: usize, out: &mut [f64]) -> Answer {
+    answer(unsafe {
+        library::difficulty_read_rhythm(chart.as_ptr(), chart.len(), records.as_ptr(), records.len(), place, out.as_mut_ptr(), out.len())
     })
 }
 

@@ -1,4 +1,4 @@
-/* Chart difficulty for an editing station: seven calls on a chart and its two tables.
+/* Chart difficulty for an editing station: nine calls on a chart and its two tables.
  *
  * Lent by the caller, kept by the caller: no call allocates, keeps a pointer after it has returned, prints, or stops the program.
  *   chart    a buffer whose first bytes are the chart (docs/FORMAT.md), as many as the chart's own length field says; N is its count of objects.
@@ -47,8 +47,18 @@ enum {
     DIFFICULTY_MOST = 16384,        /* objects of a chart at most */
     DIFFICULTY_RECORD = 16,         /* numbers of a record */
     DIFFICULTY_VALUES = 5,          /* values of a place */
+    DIFFICULTY_AIM = 18,            /* numbers of aim with its parts */
+    DIFFICULTY_RHYTHM = 2,          /* numbers of a rhythm value with its comparisons */
     DIFFICULTY_TOTALS = 4,          /* totals of a chart */
     DIFFICULTY_SCRATCH = 8192       /* numbers of scratch for each total */
+};
+
+/* The rule that answered aim at a place, as numbers 8 and 17 of difficulty_read_aim_parts. */
+enum {
+    DIFFICULTY_TOO_FEW = 0,    /* fewer than two records before: all parts are 0 */
+    DIFFICULTY_SPINNER = 1,    /* the object or the one before it is a spinner: all parts are 0 */
+    DIFFICULTY_ACUTE = 2,      /* the acute side of the last max, which answers on equal values too */
+    DIFFICULTY_WIDE = 3        /* its wide side */
 };
 
 /* The number (1 to 9) and the place of a refusal; the number of 0 is 0. */
@@ -113,6 +123,24 @@ uint64_t difficulty_read_record(const uint8_t *chart, size_t chart_length,
  * Conditions 1, 7, 8; 7 where out has fewer than 5 numbers, whatever N, or values fewer than N entries. */
 uint64_t difficulty_read_values(const uint8_t *chart, size_t chart_length,
                                 const double *values, size_t values_length, size_t place,
+                                double *out, size_t out_length);
+
+/* Writes aim at a place (1 to N - 1) with its parts, worked out from the records, to the first 18 numbers of out.
+ * Conditions 1, 7, 8; 7 where out has fewer than 18 numbers, whatever N, or records fewer than N entries. In this order:
+ *   0 the value, 1 this velocity and 2 the one before, as they stand before the velocity change works them out again,
+ *   3 wide, 4 acute, 5 wiggle, 6 velocity-change and 7 slider bonus, each without its multiplier, 8 the rule that answered (DIFFICULTY_TOO_FEW and so on);
+ *   9 to 17 the same without sliders: their value does not take in the slider bonus, which 16 gives all the same.
+ * For the tables of difficulty_open, after any edits, 0 and 9 are the first two numbers of difficulty_read_values. */
+uint64_t difficulty_read_aim_parts(const uint8_t *chart, size_t chart_length,
+                                   const double *records, size_t records_length, size_t place,
+                                   double *out, size_t out_length);
+
+/* Writes the rhythm value of a place (1 to N - 1), worked out from the records, to out, and behind it how often an island was compared with a kept one
+ * for it: a whole number from 0 to 406.
+ * Conditions 1, 7, 8; 7 where out has fewer than 2 numbers, whatever N, or records fewer than N entries.
+ * For the tables of difficulty_open, after any edits, the value is number 3 of difficulty_read_values. */
+uint64_t difficulty_read_rhythm(const uint8_t *chart, size_t chart_length,
+                                const double *records, size_t records_length, size_t place,
                                 double *out, size_t out_length);
 
 /* Writes the totals over all values to the first 4 numbers of out: aim, aim without sliders, speed, flashlight.

@@ -80,6 +80,22 @@ DIFFICULTY_GUARDED difficulty_guarded_read_values(const uint8_t *chart, size_t c
     return difficulty_leave(&host, difficulty_read_values(chart, chart_length, values, values_length, place, out, out_length));
 }
 
+DIFFICULTY_GUARDED difficulty_guarded_read_aim_parts(const uint8_t *chart, size_t chart_length,
+                                                     const double *records, size_t records_length, size_t place,
+                                                     double *out, size_t out_length) {
+    fenv_t host;
+    difficulty_enter(&host);
+    return difficulty_leave(&host, difficulty_read_aim_parts(chart, chart_length, records, records_length, place, out, out_length));
+}
+
+DIFFICULTY_GUARDED difficulty_guarded_read_rhythm(const uint8_t *chart, size_t chart_length,
+                                                  const double *records, size_t records_length, size_t place,
+                                                  double *out, size_t out_length) {
+    fenv_t host;
+    difficulty_enter(&host);
+    return difficulty_leave(&host, difficulty_read_rhythm(chart, chart_length, records, records_length, place, out, out_length));
+}
+
 DIFFICULTY_GUARDED difficulty_guarded_totals(const uint8_t *chart, size_t chart_length,
                                              const double *values, size_t values_length,
                                              double *aim, size_t aim_length,

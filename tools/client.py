@@ -15,7 +15,7 @@ sys.dont_write_bytecode = True
 import chart
 
 SCRATCH = 8_192
-READINGS = ("value", "record")  # refused, they are not printed
+READINGS = ("value", "record", "parts", "rhythm")  # refused, they are not printed
 
 
 def drags(b, n, place):
@@ -28,7 +28,7 @@ def drags(b, n, place):
 
 
 def shown(n, place):
-    return [f"value {place} {n + 2}", f"record {place} {n + 2}", f"totals {n + 2} / " + " ".join([str(SCRATCH)] * 4)]
+    return [*(f"{word} {place} {n + 2}" for word in READINGS), f"totals {n + 2} / " + " ".join([str(SCRATCH)] * 4)]
 
 
 def calls(b, n, place):
@@ -54,16 +54,20 @@ def wide(bits):
     return struct.pack(">d", struct.unpack(">f", bytes.fromhex(bits))[0]).hex().upper()
 
 
-def flag(digit):
-    return struct.pack(">d", int(digit)).hex().upper()
+def whole(digits):
+    return struct.pack(">d", int(digits)).hex().upper()
 
 
 def told(answer):
-    """An answer as the clients print it; a record has its flags last, and all its numbers are f64."""
+    """An answer as the clients print it; a record has its flags last, and all numbers are f64."""
     name, *w = answer.split()
     if name == "record":
         place, *w = w
-        return " ".join(["record", *w[:8], wide(w[9]), wide(w[10]), w[11], w[12], w[14], w[15], flag(w[8]), flag(w[13])])
+        return " ".join(["record", *w[:8], wide(w[9]), wide(w[10]), w[11], w[12], w[14], w[15], whole(w[8]), whole(w[13])])
+    if name == "parts":
+        return " ".join(["parts", *w[1:9], whole(w[9]), *w[10:18], whole(w[18])])
+    if name == "rhythm":
+        return " ".join(["rhythm", w[1], whole(w[2])])
     return " ".join(["values", *w[1:]]) if name == "value" else answer
 
 

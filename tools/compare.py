@@ -1,9 +1,9 @@
 #!/usr/bin/env python3
 """Holds a program against the oracle, on charts and scripts of calls that are made anew from a seed.
 
-    compare.py lists TOOLS BUILD PROGRAM [--seed S] [--count N]
+    compare.py lists|parts|rhythms TOOLS BUILD PROGRAM [--seed S] [--count N]
     compare.py scripts TOOLS BUILD PROGRAM [--seed S] [--count N] [--calls C]
-    compare.py lists|scripts TOOLS BUILD --save DIR ...      no program: writes DIR/stdin and DIR/stdout
+    compare.py MODE TOOLS BUILD --save DIR ...      no program: writes DIR/stdin and DIR/stdout
 
 TOOLS is the folder of the oracle's scripts (mkcharts.py, mkscripts.py), BUILD that of its programs.
 
@@ -11,9 +11,12 @@ lists: PROGRAM reads from standard input for each chart its length (u32, little-
 after another. The charts are of all styles in turn, to 32,768 bytes; every eighth is damaged, though some of these open. Zeros of either sign are equal.
 With an order 4 among ORDERS two of three charts have stated lengths, of lists and of scripts.
 
+parts, rhythms: PROGRAM is `test_aim_parts` or `test_rhythm`, or reads and writes as it does: on the same charts, aim with its parts or rhythm values with
+their comparisons.
+
 scripts: PROGRAM is `test_scripts`, or reads and writes as it does (crates/test_scripts/src/main.rt); tools/scripts.py packs the calls. The charts open; every
 fifth has 0 to 3 objects, and half of these are edited at every place. Every second script is a list of calls on one buffer, with no other hand on the chart; in the others a hand writes to the chart and
-calls are lent buffers of other lengths. Tables hold numbers of other origin beforehand. Floats are compared by their bits; where the oracle only says that
+calls are lent buffers of other lengths. Every third reads aim with its parts and rhythm values with their comparisons too. Tables hold numbers of other origin beforehand. Floats are compared by their bits; where the oracle only says that
 a call is carried out, the program must not refuse it.
 
 The variable ORDERS tells the oracle and its scripts which orders have landed.
@@ -34,9 +37,12 @@ import tempfile
 sys.dont_write_bytecode = True
 import stated
 from chart import object_size
-from scripts import KEPT, every_place, packed_script, patterns
+from scripts import KEPT, READINGS, every_place, packed_script, patterns, with_details
 
 BATCH = 500
+
+# what the oracle is asked for charts
+ASKED = {"lists": ["list"], "parts": ["aimparts", "--no-limit"], "rhythms": ["rhythmcount", "--no-limit"]}
 
 
 def damage(rng, b):
@@ -126,7 +132,7 @@ def lists(a, oracle):
     for first in range(0, a.count, BATCH):
         made = [list_chart(mk, a.seed, i) for i in range(first, min(first + BATCH, a.count))]
         charts = [b for _, b in made]
-        yield [name for name, _ in made], b"".join(map(packed_chart, charts)), oracle.answers(["list"], charts)
+        yield [name for name, _ in made], b"".join(map(packed_chart, charts)), oracle.answers(ASKED[a.mode], charts)
 
 
 def packed_call(a, i, chart, calls, answer):
@@ -139,7 +145,9 @@ def calls_of(a, i, chart):
     """The i-th script."""
     import mkscripts
     if i % 10 == 9:
-        return every_place(chart)
+        return every_place(chart, READINGS)
+    if i % 3 == 1:
+        return with_details(mkscripts, chart, a.seed, a.calls, pure=i % 2 == 0)
     return mkscripts.script(chart, a.seed, a.calls, pure=i % 2 == 0)[0]
 
 
@@ -157,7 +165,7 @@ def scripts(a, oracle):
 
 def cut(mode, text, want):
     """A program's output in the parts that belong to the answers."""
-    if mode == "lists":
+    if mode in ASKED:
         return [part for part in re.split(r"(?m)^(?=objects |refused )", text) if part]
     lines, out = text.splitlines(keepends=True), []
     for answer in want:
@@ -177,7 +185,7 @@ def left_open(want, got):
 
 def difference(mode, want, got):
     """None, or the first line that differs."""
-    if mode == "lists":
+    if mode in ASKED:
         want, got = merged(want), merged(got)
     pairs = zip((want + "(end)").split("\n"), (got + "(end)").split("\n"))
     found = next((f"oracle {w}, program {g}" for w, g in pairs if w != g and not left_open(w, g)), None)
@@ -230,7 +238,7 @@ def save(a, batches):
 
 def main():
     p = argparse.ArgumentParser(usage=__doc__)
-    p.add_argument("mode", choices=("lists", "scripts"))
+    p.add_argument("mode", choices=(*ASKED, "scripts"))
     p.add_argument("tools")
     p.add_argument("build")
     p.add_argument("program", nargs="?", type=shlex.split)
@@ -241,10 +249,10 @@ def main():
     a = p.parse_args()
     if bool(a.program) == bool(a.save):
         p.error("a program or --save")
-    a.count = a.count or {"lists": 20_000, "scripts": 200}[a.mode]
+    a.count = a.count or {"lists": 20_000, "scripts": 200}.get(a.mode, 2_000)
     sys.path.insert(0, a.tools)
     with tempfile.TemporaryDirectory() as folder:
-        batches = {"lists": lists, "scripts": scripts}[a.mode](a, Oracle(a.build, folder))
+        batches = (scripts if a.mode == "scripts" else lists)(a, Oracle(a.build, folder))
         return (save if a.save else run)(a, batches)
 
 

@@ -3,6 +3,7 @@
 
     scripts.py ORACLE SECOND DIR SEED CALLS CHARTS..     writes DIR/stdin and DIR/stdout
     scripts.py ORACLE SECOND DIR --add SEED CALLS CHARTS..     appends to them
+    scripts.py ORACLE SECOND DIR --details SEED CALLS CHARTS..     appends scripts of the two readings that are worked out from the records
 
 ORACLE is the comparison program built from the customer's Rust, SECOND the folder of its second calculator and of mkscripts.py, which makes the
 calls; the variable ORDERS tells them which orders have landed. A chart that opens gets two scripts: one that opens it first, and a shorter one on tables
@@ -31,9 +32,12 @@ from foreign import Real
 ENTRIES = 1024
 MEMORY = 65536  # bytes that the program keeps: the chart, and what a buffer has behind it
 KEPT = "entries kept"  # the last line of every script
-NAMES = ("open", "replace", "record", "value", "totals", "poke", "chart", "insert", "remove", "buffer", "entry")
+NAMES = ("open", "replace", "record", "value", "totals", "poke", "chart", "insert", "remove", "buffer", "entry", "parts", "rhythm")
 KINDS = {name: kind for kind, name in enumerate(NAMES)}
 EDITS = ("replace", "insert", "remove")
+DETAILS = ("parts", "rhythm")
+OF_RECORDS = ("record", *DETAILS)
+READINGS = ("value", *OF_RECORDS)
 
 
 def object_bytes(text):
@@ -116,6 +120,19 @@ class Model:
         words = self.words(j)
         return f"entry {j} kept" if words == self.unwritten[j] else " ".join(["entry", str(j), *words[0], *words[1]])
 
+    def seen(self):
+        """Settings, and the records as the evaluators see them."""
+        s, objs = self.second.read(self.chart)
+        return s, Rows(objs, self.records)
+
+    def parts_line(self, j):
+        both = [self.second.aim_parts(*self.seen(), j, sliders) for sliders in (True, False)]
+        return " ".join(["parts", str(j), *(w for p in both for w in [*map(self.second.hx, p[:8]), str(p[8])])])
+
+    def rhythm_line(self, j):
+        value, compared = self.second.rhythm_counted(*self.seen(), j)
+        return f"rhythm {j} {self.second.hx(value)} {compared}"
+
     def totals_line(self):
         second = self.second
         s, objs = second.read(self.chart)
@@ -179,7 +196,7 @@ def packed(r, lent, line):
     elif name in EDITS:
         obj = b"" if name == "remove" else object_bytes(w[1])
         out += struct.pack("<Q", int(w[0])) + chunk(obj) + table(w[-2], 16) + table(w[-1], 5)
-    elif name == "record":
+    elif name in OF_RECORDS:
         out += struct.pack("<Q", int(w[0])) + table(w[1], 16)
     elif name == "value":
         out += struct.pack("<Q", int(w[0])) + table(w[1], 5)
@@ -237,8 +254,8 @@ def unpacked(data):
         elif name in EDITS:
             w = [*take("<Q"), chunk().hex() or "-", *tables(), *[buffer] * (buffer != lent)]
             w = w[:1] + w[2:] if name == "remove" else w
-        elif name in ("record", "value"):
-            w = [*take("<Q"), take("<I")[0] // (16 if name == "record" else 5)]
+        elif name in READINGS:
+            w = [*take("<Q"), take("<I")[0] // (16 if name in OF_RECORDS else 5)]
         elif name == "totals":
             w = [take("<I")[0] // 5, "/", *take("<4I")]
         elif name == "poke":
@@ -272,7 +289,7 @@ def answered(model, line, answer):
     elif name == "poke":
         at, new = int(w[0]), object_bytes(w[1])
         model.chart = model.chart[:at] + new + model.chart[at + len(new):]
-    elif name in ("record", "value", "totals", "entry") and not answer.startswith("refused"):
+    elif name in (*READINGS, "totals", "entry") and not answer.startswith("refused"):
         own = model.totals_line() if name == "totals" else getattr(model, name + "_line")(int(w[0]))
         if answer not in ("carried-out", f"entry {w[0]} unknown", own):
             sys.exit(f"the model does not agree: {line}\n{answer}\n{own}")
@@ -297,7 +314,7 @@ def answers(second, oracle, chart, pattern, lines, unopened):
 CIRCLE = struct.pack("<2d4f6I", 1000.0, 1000.0, 100.0, 100.0, *[0.0] * 2, *[0] * 6)
 
 
-def every_place(chart):
+def every_place(chart, readings=("record", "value")):
     """A script for a chart that opens: in a buffer with room for one object more, a copy put in and taken out again at every place, then all
     objects taken out and put back from either end; after each edit all that can be read is read."""
     n, size = struct.unpack_from("<I", chart)[0], chart_tool.object_size(chart)
@@ -308,7 +325,7 @@ def every_place(chart):
     def edit(k, obj, m):
         """A removal where there is no object; m is N afterwards."""
         lines.append(f"insert {k} {obj} {m} {m}" if obj else f"remove {k} {m + 1} {m + 1}")
-        lines.extend(f"{word} {j} {m}" for j in range(1, m) for word in ("record", "value"))
+        lines.extend(f"{word} {j} {m}" for j in range(1, m) for word in readings)
         lines.extend([f"totals {m} / 8192 8192 8192 8192", f"entry {m}", f"entry {m + 1}", "chart"])
 
     for k in range(n + 1):
@@ -329,6 +346,45 @@ def few_stated(chart):
     return chart_tool.object_size(chart) == 64 and struct.unpack_from("<I", chart)[0] < 4
 
 
+def details(chart):
+    """A script for a chart of three objects or more that opens: aim with its parts and the rhythm value at every place, after edits of each kind, where 1, 7 or 8
+    is met, and where another hand has written what meets 2 to 6, which no reading tries."""
+    n, size = struct.unpack_from("<I", chart)[0], 56
+    objects = [chart[80 + size * k:80 + size * (k + 1)] for k in range(n)]
+    sliders = [k for k, o in enumerate(objects) if o[32] == 1 and k != n // 2]
+    lines = [f"buffer {len(chart) + size}", f"open {n + 1} {n + 1}"]
+
+    def read(m):
+        lines.extend(f"{word} {j} {m}" for j in range(1, m) for word in DETAILS)
+
+    def poked(at, new):
+        lines.append(f"poke {at} {new.hex()}")
+        read(n)
+        lines.append(f"poke {at} {chart[at:at + len(new)].hex()}")
+
+    read(n)
+    lines.extend(f"{word} {place} {m}" for word in DETAILS for place, m in ((0, n), (n, n), (2 ** 32 + 1, n), (2 ** 64 - 1, n), (1, n - 1), (n, n - 1), (1, 0)))
+    moved = bytearray(objects[n // 2])
+    struct.pack_into("<2f", moved, 16, 300.0, 40.0)
+    lines.append(f"replace {n // 2} {moved.hex()} {n} {n}")
+    read(n)
+    lines.append(f"insert 1 {objects[0].hex()} {n + 1} {n + 1}")
+    read(n + 1)
+    lines.append(f"remove 0 {n + 1} {n + 1}")
+    read(n)
+    lines.append(f"poke 28 {struct.pack('<I', 7).hex()}")
+    lines.extend(f"{word} {place} {m}" for word in DETAILS for place, m in ((1, n), (n, n), (1, 0)))
+    lines.append(f"poke 28 {chart[28:32].hex()}")
+    poked(32, struct.pack("<d", 1000.0))
+    poked(48, struct.pack("<d", 1e9))
+    poked(80 + size * 1 + 16, struct.pack("<f", 200_000.0))
+    for k in sliders[:1]:
+        poked(80 + size * k + 40, chart[4:8])
+    poked(80 + size * 1, struct.pack("<2d", 9e5, 9e5))
+    poked(80 + size * (n - 1), struct.pack("<2d", 1e7, 1e7))
+    return lines
+
+
 def scripts(mkscripts, second, chart, seed, calls):
     """The scripts on a chart, and whether each is on tables that were never filled."""
     if second.conditions(chart) is None:
@@ -340,8 +396,21 @@ def scripts(mkscripts, second, chart, seed, calls):
     yield lines, True
 
 
-def write(oracle, out, how, seed, calls, charts):
-    """Writes (w) or appends (a) the scripts on charts to both files of a folder; the modules of the oracle's scripts are found already."""
+def with_details(mkscripts, chart, seed, calls, pure=False):
+    """A script with the two readings among its calls; other calls about values are left out."""
+    return [line for line in mkscripts.script(chart, seed, calls, pure=pure, values=True)[0] if line.split()[0] in KINDS]
+
+
+def detail_scripts(mkscripts, chart, seed, calls):
+    """The scripts of the two readings on a chart that opens; the last one on tables that were never filled."""
+    yield details(chart), False
+    yield with_details(mkscripts, chart, f"{seed}/details", calls), False
+    n, = struct.unpack_from("<I", chart)
+    yield [f"{word} {j} {n}" for j in range(1, n) for word in DETAILS], True
+
+
+def write(oracle, out, how, seed, calls, charts, made=None):
+    """Writes (w) or appends (a) the scripts on charts to both files of a folder, those of `made` where it is given; the modules of the oracle's scripts are found already."""
     import mkscripts
     import second
     r = random.Random(f"scripts/{seed}")
@@ -349,7 +418,7 @@ def write(oracle, out, how, seed, calls, charts):
     fillings = list(patterns(r))
     with open(f"{out}/stdin", how + "b") as given, open(f"{out}/stdout", how) as wanted:
         for chart in charts:
-            for lines, unopened in scripts(mkscripts, second, chart, seed, calls):
+            for lines, unopened in made(mkscripts, chart, seed, calls) if made else scripts(mkscripts, second, chart, seed, calls):
                 pattern = fillings[n_scripts % len(fillings)]
                 told, left = answers(second, oracle, chart, pattern, lines, unopened)
                 given.write(packed_script(r, chart, pattern, lines, told))
@@ -364,13 +433,13 @@ def main():
     if len(sys.argv) < 7:
         sys.exit(__doc__)
     oracle, folder, out, *rest = sys.argv[1:]
-    how, (seed, calls, *names) = ("a", rest[1:]) if rest[0] == "--add" else ("w", rest)
+    how, (seed, calls, *names) = ("a", rest[1:]) if rest[0] in ("--add", "--details") else ("w", rest)
     sys.path.insert(0, folder)
     charts = []
     for name in names:
         with open(name, "rb") as file:
             charts.append(file.read())
-    write(oracle, out, how, seed, int(calls), charts)
+    write(oracle, out, how, seed, int(calls), charts, detail_scripts if rest[0] == "--details" else None)
 
 
 if __name__ == "__main__":

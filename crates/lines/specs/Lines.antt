@@ -1,9 +1,13 @@
--- Document 01, "The lister": its lines, and the line of a record, which the test programs print. Definitions only.
+-- Document 01, "The lister": its lines, and those of records and of readings, which the test programs print. Definitions only.
 use Prim.Native.Nat.{ℕ}
 use mathlib.Core.Bool.{Bool, cond}
 use mathlib.Core.List.{List, [], _∷_, _++_}
 use lib.Ieee.{Float}
 use Rattle.text.specs.Text.{ascii, decimalText, f64Text, f32Text}
+use Rattle.eval_aim.specs.declared.AimRule.{AimRule}
+use Rattle.eval_aim.specs.declared.AimRule.the-variants.{TooFew, Spinner, Acute, Wide}
+use Rattle.eval_aim.specs.declared.AimParts.{AimParts}
+use Rattle.eval_rhythm.specs.declared.Counted.{Counted}
 use Rattle.skills.specs.declared.Skills.{Skills}
 use Rattle.skills_counts.specs.declared.ObjectCounts.{ObjectCounts}
 use Rattle.osu_difficulty_object.specs.declared.OsuDifficultyObject.{OsuDifficultyObject}
@@ -87,3 +91,30 @@ recordText j r =
     ++ numberText (r .angle)
     ++ numberText (r .«small_circle_bonus»)
     ++ ascii "\n"
+
+-- ---- The lines of document 02, orders 7 and 12
+
+-- the rule that answered, as a digit of ASCII
+abbrev pub ruleDigit : AimRule → ℕ
+ruleDigit TooFew = 48
+ruleDigit Spinner = 49
+ruleDigit Acute = 50
+ruleDigit Wide = 51
+
+unfoldable pub ruleText : AimRule → List ℕ
+ruleText rule = ascii " " ++ (ruleDigit rule ∷ [])
+
+unfoldable pub bonusesText : AimParts → List ℕ
+bonusesText p = numberText (p .wide) ++ numberText (p .acute) ++ numberText (p .wiggle) ++ numberText (p .«vel_change») ++ numberText (p .slider)
+
+-- "Beside the value give both velocities [..], the wide, acute, wiggle, velocity-change and slider bonuses, and which rule answered"
+unfoldable pub partsText : Float → AimParts → List ℕ
+partsText value p = numberText value ++ numberText (p .«curr_vel») ++ numberText (p .«prev_vel») ++ bonusesText p ++ ruleText (p .rule)
+
+-- with sliders, then without
+unfoldable pub aimText : ℕ → Float → AimParts → Float → AimParts → List ℕ
+aimText j x p y q = decimalText j ++ partsText x p ++ partsText y q ++ ascii "\n"
+
+-- the rhythm value and the comparisons for it
+unfoldable pub rhythmText : ℕ → Counted → List ℕ
+rhythmText j r = decimalText j ++ numberText (r .value) ++ ascii " " ++ decimalText (r .comparisons) ++ ascii "\n"

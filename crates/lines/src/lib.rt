@@ -1,10 +1,15 @@
 // Lines of the programs' answers. As in `text`, each function appends at an offset of a lent buffer and returns the offset behind what it wrote.
+ghost use mathlib.Core.Path.{_≡_};
 ghost use Rattle.text.specs.Buffer.{Puts};
 ghost use Rattle.eval_values.specs.Values.{rowOf};
 ghost use Rattle.chart_opening.specs.Conditions.{refusalNumber, refusalPlace};
 ghost use Rattle.lines.specs.Lines.{numberText, narrowText, flagText, refusalText, countText, placeText, skillsText, totalsText, countsText};
 ghost use Rattle.lines.specs.Lines.{jumpText, travelText, recordText};
+ghost use Rattle.lines.specs.Lines.{ruleDigit, ruleText, bonusesText, partsText, aimText, rhythmText};
 use chart_opening::Refusal;
+use eval_aim::AimParts;
+use eval_aim::AimRule;
+use eval_rhythm::Counted;
 use eval_values::Values;
 use osu_difficulty_object::OsuDifficultyObject;
 use skills::Skills;
@@ -140,6 +145,77 @@ pub fn put_record(out: &mut [u8], at: usize, j: usize, r: OsuDifficultyObject) -
     let angle = put_f64(out, flag, r.angle);
     let small = put_f64(out, angle, r.small_circle_bonus);
     text::put(out, small, b'\n')
+}
+
+// The digit of the rule that answered aim.
+fn rule_digit(rule: AimRule) -> u8
+    ensures { λ r. ⌜ r ≡ ruleDigit rule ⌝ }
+{
+    match rule {
+        AimRule::TooFew => b'0',
+        AimRule::Spinner => b'1',
+        AimRule::Acute => b'2',
+        AimRule::Wide => b'3',
+    }
+}
+
+fn put_rule(out: &mut [u8], at: usize, rule: AimRule) -> usize
+    ensures { λ r. ⌜ Puts (ruleText rule) (now (out .entry)) at (now (out .exit)) r ⌝ }
+{
+    let end = text::put(out, at, b' ');
+    text::put(out, end, rule_digit(rule))
+}
+
+// The five bonuses.
+fn put_bonuses(out: &mut [u8], at: usize, p: AimParts) -> usize
+    ensures { λ r. ⌜ Puts (bonusesText p) (now (out .entry)) at (now (out .exit)) r ⌝ }
+{
+    let wide = put_f64(out, at, p.wide);
+    let acute = put_f64(out, wide, p.acute);
+    let wiggle = put_f64(out, acute, p.wiggle);
+    let vel_change = put_f64(out, wiggle, p.vel_change);
+    put_f64(out, vel_change, p.slider)
+}
+
+// Aim's value, its parts and the rule that answered.
+fn put_parts(out: &mut [u8], at: usize, value: f64, p: AimParts) -> usize
+    ensures { λ r. ⌜ Puts (partsText value p) (now (out .entry)) at (now (out .exit)) r ⌝ }
+{
+    let rule = p.rule;
+    let whole = put_f64(out, at, value);
+    let curr_vel = put_f64(out, whole, p.curr_vel);
+    let prev_vel = put_f64(out, curr_vel, p.prev_vel);
+    let bonuses = put_bonuses(out, prev_vel, p);
+    put_rule(out, bonuses, rule)
+}
+
+// A place, aim's value with its parts, and both without sliders.
+pub fn put_aim(
+    out: &mut [u8],
+    at: usize,
+    j: usize,
+    value: f64,
+    parts: AimParts,
+    value_no_sliders: f64,
+    parts_no_sliders: AimParts,
+) -> usize
+    ensures { λ r. ⌜ Puts (aimText j value parts «value_no_sliders» «parts_no_sliders») (now (out .entry)) at (now (out .exit)) r ⌝ }
+{
+    let place = text::put_decimal(out, at, j as u64);
+    let with = put_parts(out, place, value, parts);
+    let without = put_parts(out, with, value_no_sliders, parts_no_sliders);
+    text::put(out, without, b'\n')
+}
+
+// A place, its rhythm value and how often an island was compared for it.
+pub fn put_rhythm(out: &mut [u8], at: usize, j: usize, r: Counted) -> usize
+    ensures { λ end. ⌜ Puts (rhythmText j r) (now (out .entry)) at (now (out .exit)) end ⌝ }
+{
+    let place = text::put_decimal(out, at, j as u64);
+    let value = put_f64(out, place, r.value);
+    let space = text::put(out, value, b' ');
+    let comparisons = text::put_decimal(out, space, r.comparisons as u64);
+    text::put(out, comparisons, b'\n')
 }
 
 // The line of a refusal, written.

@@ -1,12 +1,10 @@
 // Lists the rhythm values of charts with their comparisons. Standard input has for each chart its length (u32, little-endian) and its bytes. Of a
-// chart that is opened the number of objects is printed, for each place from 1 on its rhythm value as bits and how often an island was compared, and
-// the largest of these counts; of any other the refusal.
-ghost use Prim.Native.Nat.{_*_, _≤_};
+// chart that is opened the number of objects is printed, for each place from 1 on what the reading answers, the rhythm value as bits and how often an
+// island was compared, and the largest of these counts; of any other the refusal.
+ghost use Prim.Native.Nat.{_≤_};
 ghost use lib.ListN.{length};
-ghost use Rattle.chart_fields.specs.Objects.{Holds};
-use chart_fields::Layout;
 use chart_opening::Verdict;
-use eval_rhythm::Counted;
+use readings::RhythmAnswer;
 
 // Charts that are read at most.
 const MOST: usize = 65536;
@@ -17,12 +15,19 @@ fn larger(a: usize, b: usize) -> usize {
 }
 
 // The line of place j.
-fn put_place(out: &mut [u8], at: usize, j: usize, r: Counted) -> usize {
-    let place = text::put_decimal(out, at, j as u64);
-    let value = lines::put_f64(out, place, r.value);
-    let space = text::put(out, value, b' ');
-    let comparisons = text::put_decimal(out, space, r.comparisons as u64);
-    text::put(out, comparisons, b'\n')
+fn put_place(out: &mut [u8], at: usize, j: usize, r: RhythmAnswer) -> usize {
+    match r {
+        RhythmAnswer::Refused(x) => lines::put_refusal(out, at, x),
+        RhythmAnswer::Rhythm(c) => lines::put_rhythm(out, at, j, c),
+    }
+}
+
+// The comparisons of an answer.
+fn compared(r: RhythmAnswer) -> usize {
+    match r {
+        RhythmAnswer::Refused(x) => 0,
+        RhythmAnswer::Rhythm(c) => c.comparisons,
+    }
 }
 
 // The line of the largest count.
@@ -33,18 +38,15 @@ fn put_most(out: &mut [u8], at: usize, most: usize) -> usize {
 }
 
 // All lines of a chart with its records, written.
-fn show_places(out: &mut [u8], chart: &[u8], lay: Layout, window: f64, t: &[f64])
-    requires { ⌜ Holds (now chart) lay × (16 * lay .n ≤ length (now t)) ⌝ }
-{
-    let n = lay.n;
+fn show_places(out: &mut [u8], chart: &[u8], n: usize, t: &[f64]) {
     let mut end = lines::put_count(out, 0, n);
     let mut most: usize = 0;
     let mut j = 1;
     while j < n {
-        let r = eval_rhythm::evaluate_counted(t, chart, lay, j, window);
+        let r = readings::read_rhythm(chart, t, j);
         end = text::show_if_full(out, end);
         end = put_place(out, end, j, r);
-        most = larger(most, r.comparisons);
+        most = larger(most, compared(r));
         j += 1;
     }
     end = put_most(out, end, most);
@@ -61,7 +63,7 @@ fn answer(out: &mut [u8], chart: &[u8], t: &mut [f64])
             let lay = chart_opening::layout_of(chart);
             let set = chart_opening::settings_at(chart, 32);
             osu_records::fill(chart, lay, set, t);
-            show_places(out, chart, lay, set.hit_window, t);
+            show_places(out, chart, lay.n, t);
         }
     }
 }

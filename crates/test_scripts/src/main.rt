@@ -11,13 +11,16 @@
 //   8 remove: as replace, with an object of no bytes
 //   9 such a buffer is lent from now on
 //   10 what an entry of both tables holds: its place
+//   11 aim with its parts, 12 the rhythm value with its comparisons: place, length of the record table
 // Then come the length of the buffer that is lent at the end, and the largest N on the way. Places of calls are u64, all else u32, tables and scratch are
 // counted in numbers, all is little-endian. Every answer is a line. A script ends with the lines of 6, and whether entry 0 and those behind the largest N
 // hold what they held.
 ghost use Prim.Native.Nat.{_≤_};
 use chart_opening::Verdict;
 use figures::TotalsAnswer;
+use readings::AimAnswer;
 use readings::RecordAnswer;
+use readings::RhythmAnswer;
 use readings::ValuesAnswer;
 
 // Scripts that are read at most.
@@ -188,6 +191,34 @@ fn value(out: &mut [u8], at: usize, chart: &[u8], values: &[f64]) -> usize {
         ValuesAnswer::Values(x) => {
             let word = text::put_all(out, at, b"value ");
             lines::put_values(out, word, place, x)
+        }
+    }
+}
+
+// Reads aim with its parts and puts the answer's line.
+fn parts(out: &mut [u8], at: usize, chart: &[u8], records: &[f64]) -> usize {
+    let place = text::next_long() as usize;
+    let r = text::next_length(records.len());
+    match readings::read_aim_parts(chart, &records[0..r], place) {
+        AimAnswer::Refused(x) => lines::put_refusal(out, at, x),
+        AimAnswer::Aim(d) => {
+            let with = d.parts;
+            let without = d.parts_no_sliders;
+            let word = text::put_all(out, at, b"parts ");
+            lines::put_aim(out, word, place, d.value, with, d.value_no_sliders, without)
+        }
+    }
+}
+
+// Reads a rhythm value with its comparisons and puts the answer's line.
+fn rhythm(out: &mut [u8], at: usize, chart: &[u8], records: &[f64]) -> usize {
+    let place = text::next_long() as usize;
+    let r = text::next_length(records.len());
+    match readings::read_rhythm(chart, &records[0..r], place) {
+        RhythmAnswer::Refused(x) => lines::put_refusal(out, at, x),
+        RhythmAnswer::Rhythm(c) => {
+            let word = text::put_all(out, at, b"rhythm ");
+            lines::put_rhythm(out, word, place, c)
         }
     }
 }
@@ -422,6 +453,8 @@ fn look(
         }
         9 => put_lent(out, at, chart.len()),
         10 => entry(out, at, pattern, records, values),
+        11 => parts(out, at, chart, records),
+        12 => rhythm(out, at, chart, records),
         _ => put_chart(out, at, chart),
     }
 }

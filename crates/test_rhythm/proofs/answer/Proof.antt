@@ -28,9 +28,7 @@ fill-requires c κs =
     (f .ready, f .record-room _ (search needs))
 
 show-places-requires : tie.Need-show-places-requires
-show-places-requires c κs =
-    let f = fits _ 1024 _ (c .before .before .before .before .before .before .before .before .before .before .check .ensures) (c .before .before .before .before .before .before .before .before .enum-told .given .1) _ (c .before .before .before .before .before .before .before .layout-of .ensures) in
-    (f .ready .holds, f .record-room _ (search needs))
+show-places-requires c κs = search needs
 
 same-length : tie.Need-same-length
 same-length c = search needs

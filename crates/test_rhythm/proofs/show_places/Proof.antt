@@ -1,5 +1,5 @@
 -- `test_rhythm::show_places` meets its contract: the buffer keeps its length. Assumes nothing.
-use Prim.Native.Nat.{_-_, _≤_}
+use Prim.Native.Nat.{_-_}
 use mathlib.Core.Path.{_≡_}
 use lib.ListN.{length}
 use borrow.Author.Needs.{needs}
@@ -7,10 +7,10 @@ use Rattle.test_rhythm.proofs.show_places.Statement.{statement}
 use Rattle.test_rhythm.proofs.show_places.Tie as tie
 
 abbrev Inv-loop : tie.InvT-loop
-Inv-loop out₀ chart lay window t n end₀ most₀ j₀ out end most j = (length out ≡ length out₀) × (1 ≤ j)
+Inv-loop out₀ chart n t end₀ most₀ j₀ out end most j = length out ≡ length out₀
 
 abbrev μ-loop : tie.MeasureT-loop
-μ-loop out₀ chart lay window t n end₀ most₀ j₀ out end most j = n - j
+μ-loop out₀ chart n t end₀ most₀ j₀ out end most j = n - j
 
 put-count-requires : tie.Need-put-count-requires Inv-loop μ-loop
 put-count-requires c κs = search needs
@@ -18,14 +18,17 @@ put-count-requires c κs = search needs
 loop-holds : tie.Need-loop-holds Inv-loop μ-loop
 loop-holds c = search needs
 
-evaluate-counted-requires : tie.Need-evaluate-counted-requires Inv-loop μ-loop
-evaluate-counted-requires c κs = search needs
+read-rhythm-requires : tie.Need-read-rhythm-requires Inv-loop μ-loop
+read-rhythm-requires c κs = search needs
 
 show-if-full-requires : tie.Need-show-if-full-requires Inv-loop μ-loop
 show-if-full-requires c κs = search needs
 
 put-place-requires : tie.Need-put-place-requires Inv-loop μ-loop
 put-place-requires c κs = search needs
+
+compared-requires : tie.Need-compared-requires Inv-loop μ-loop
+compared-requires c κs = search needs
 
 larger-requires : tie.Need-larger-requires Inv-loop μ-loop
 larger-requires c κs = search needs
@@ -59,9 +62,10 @@ show-places-spec =
     μ-loop
     put-count-requires
     loop-holds
-    evaluate-counted-requires
+    read-rhythm-requires
     show-if-full-requires
     put-place-requires
+    compared-requires
     larger-requires
     add-j
     loop-less

@@ -1,0 +1,60 @@
+-- `test_aim_parts::show_places` meets its contract: the buffer keeps its length. Assumes nothing.
+use Prim.Native.Nat.{_-_}
+use mathlib.Core.Path.{_≡_}
+use lib.ListN.{length}
+use borrow.Author.Needs.{needs}
+use Rattle.test_aim_parts.proofs.show_places.Statement.{statement}
+use Rattle.test_aim_parts.proofs.show_places.Tie as tie
+
+abbrev Inv-loop : tie.InvT-loop
+Inv-loop out₀ chart n t end₀ j₀ out end j = length out ≡ length out₀
+
+abbrev μ-loop : tie.MeasureT-loop
+μ-loop out₀ chart n t end₀ j₀ out end j = n - j
+
+put-count-requires : tie.Need-put-count-requires Inv-loop μ-loop
+put-count-requires c κs = search needs
+
+loop-holds : tie.Need-loop-holds Inv-loop μ-loop
+loop-holds c = search needs
+
+show-if-full-requires : tie.Need-show-if-full-requires Inv-loop μ-loop
+show-if-full-requires c κs = search needs
+
+put-place-requires : tie.Need-put-place-requires Inv-loop μ-loop
+put-place-requires c κs = search needs
+
+add-j : tie.Need-add-j Inv-loop μ-loop
+add-j c = search needs
+
+loop-less : tie.Need-loop-less Inv-loop μ-loop
+loop-less c = search needs
+
+loop-again : tie.Need-loop-again Inv-loop μ-loop
+loop-again c = search needs
+
+show-requires : tie.Need-show-requires Inv-loop μ-loop
+show-requires c κs = search needs
+
+same-length : tie.Need-same-length Inv-loop μ-loop
+same-length c = search needs
+
+returns : tie.Need-returns Inv-loop μ-loop
+returns c = search needs
+
+pub show-places-spec : {M : Type 1} → statement M
+show-places-spec =
+    tie.close
+    (tie.spec
+    Inv-loop
+    μ-loop
+    put-count-requires
+    loop-holds
+    show-if-full-requires
+    put-place-requires
+    add-j
+    loop-less
+    loop-again
+    show-requires
+    same-length
+    returns)
