@@ -8,7 +8,7 @@ use std::fmt::Write;
 
 const HEADER: usize = 80;
 const MOST: usize = 60;
-const LARGEST: [usize; 1] = [OBJECT]; // sizes of the objects of the largest charts
+const LARGEST: [usize; 2] = [OBJECT, STATED_OBJECT]; // sizes of the objects of the largest charts
 
 type Read = fn(&[u8], &[f64], usize, &mut [f64]) -> Answer;
 
