@@ -5,8 +5,8 @@ use mathlib.Core.Bool.{Bool, true, false, cond, _||_}
 use mathlib.Core.List.{List, []}
 use native.Mathlib.Omega.{arith}
 use lib.Dec.{ltb}
-use lib.Ieee.{Float}
-use lib.ListN.{length}
+use lib.Ieee.{Float, nan}
+use lib.ListN.{length, getD, List·getD-eq-default}
 use borrow.Author.Tests.{lt-ltb, le-ltb, ltb-false}
 use Rattle.num_tables.specs.Parts.{put}
 use Rattle.chart_opening.specs.Conditions.{refusalNumber, ifAccepted, openVerdict}
@@ -24,7 +24,7 @@ use Rattle.calls.specs.Afresh.{Record, object, rhythm, Finding, rhythmIs, detai
 use Rattle.calls.specs.Conditions.{Scratch, lengths, scratchShort, Operation, readDetail, figure, sumVerdict, figureVerdict, refusal}
 use Rattle.calls.specs.Calls.{Answer, refused, recordIs, valuesAre, detailIs, figureIs, Outcome, State, state, result, refuse, execute, verdictIn, outcome, cleared, scratchAfter}
 use Rattle.calls.proofs.Refusals.{sum-refused, sum-passed, figure-refused}
-use Rattle.station.specs.Codes.{rhythmWidth, noRoom, readInto, intoVerdict, figureInto, scratchInto}
+use Rattle.station.specs.Codes.{rhythmWidth, ratingsWidth, numbersWidth, noRoom, readInto, intoVerdict, figureInto, scratchInto, ratingsCramped}
 
 pub number-small : (r : Refusal) → refusalNumber r ≤ 10
 number-small Header = omega arith
@@ -37,6 +37,10 @@ number-small Table = omega arith
 number-small Place = omega arith
 number-small Room = omega arith
 number-small NotFinite = omega arith
+
+-- what is read past the end
+pub past : (l : List Float) (i : ℕ) → length l ≤ i → getD l i nan ≡ nan
+past l i h = List·getD-eq-default l nan h
 
 -- nothing is written
 pub put-none : (l : List Float) → l ≡ put 0 [] l
@@ -85,7 +89,7 @@ few-compared x n room k st e =
 
 -- ---- Figures
 
-module _ (f : Figure) (width room : ℕ) (x : Scratch) (b : List ℕ) (vs : List Float) where
+module _ (f : Figure) (cramped : Bool) (x : Scratch) (b : List ℕ) (vs : List Float) where
   asked : Bool → Verdict
   asked short = figureVerdict f b (valueEntries (length vs)) short
 
@@ -95,22 +99,22 @@ module _ (f : Figure) (width room : ℕ) (x : Scratch) (b : List ℕ) (vs : List
   scratch-by : Verdict → Scratch
   scratch-by v = ifAccepted v (cleared x) (λ r. x)
 
-  -- with a short answer, a figure is refused as its sums are
-  pub figure-short : room < width → (r : Refusal) → Refused r ≡ sumVerdict b (valueEntries (length vs)) true
-      → (figureInto f width room x (state b [] vs) ≡ result (refused r) b [] vs) × (scratchInto f width room x (state b [] vs) ≡ x)
+  -- with a cramped answer, a figure is refused as its sums are
+  pub figure-short : cramped ≡ true → (r : Refusal) → Refused r ≡ sumVerdict b (valueEntries (length vs)) true
+      → (figureInto f cramped x (state b [] vs) ≡ result (refused r) b [] vs) × (scratchInto f cramped x (state b [] vs) ≡ x)
   unfolding figureInto scratchInto intoVerdict outcome-by scratch-by asked ifAccepted refuse
   figure-short h r e =
-      let q = ap (λ (t : Bool). asked (t || scratchShort (lengths x))) (lt-ltb room width h) ∙ figure-refused b (valueEntries (length vs)) true f r (sym e) in
+      let q = ap (λ (t : Bool). asked (t || scratchShort (lengths x))) h ∙ figure-refused b (valueEntries (length vs)) true f r (sym e) in
       (ap outcome-by q, ap scratch-by q)
 
-  pub figure-long : width ≤ room
-      → (figureInto f width room x (state b [] vs) ≡ outcome (figure f (lengths x)) (state b [] vs)) × (scratchInto f width room x (state b [] vs) ≡ scratchAfter f (state b [] vs) x)
+  pub figure-long : cramped ≡ false
+      → (figureInto f cramped x (state b [] vs) ≡ outcome (figure f (lengths x)) (state b [] vs)) × (scratchInto f cramped x (state b [] vs) ≡ scratchAfter f (state b [] vs) x)
   unfolding figureInto scratchInto intoVerdict outcome-by scratch-by asked outcome scratchAfter verdictIn refusal
   figure-long h =
-      let q = ap (λ (t : Bool). asked (t || scratchShort (lengths x))) (le-ltb room width h) in
+      let q = ap (λ (t : Bool). asked (t || scratchShort (lengths x))) h in
       (ap outcome-by q, ap scratch-by q)
 
-  -- what comes with sums that are too short is never accepted
+  -- sums that are too short are never accepted
   never-short : sumVerdict b (valueEntries (length vs)) true ≡ Accepted → ⊥
   never-short e = absurd (go _ refl)
     where
@@ -118,9 +122,9 @@ module _ (f : Figure) (width room : ℕ) (x : Scratch) (b : List ℕ) (vs : List
       go Accepted o = refuses (sym (sum-passed b (valueEntries (length vs)) true o) ∙ e)
       go (Refused r) o = refuses (sym (sum-refused b (valueEntries (length vs)) true r o) ∙ e)
 
-  pub figure-room : (a : Amount) → figureIs a ≡ figureInto f width room x (state b [] vs) .answer → width ≤ room
+  pub figure-room : (a : Amount) → figureIs a ≡ figureInto f cramped x (state b [] vs) .answer → cramped ≡ false
   unfolding figureInto intoVerdict ifAccepted refuse
-  figure-room a e = go (ltb room width) refl
+  figure-room a e = go cramped refl
     where
       no-figure : (r : Refusal) → refused r ≡ figureIs a → ⊥
       no-figure r g = let z : _≡_ {A = ℕ} 0 1 = cc in absurd (omega arith)
@@ -132,8 +136,17 @@ module _ (f : Figure) (width room : ℕ) (x : Scratch) (b : List ℕ) (vs : List
       told Accepted q g = never-short q
       told (Refused r) q g = no-figure r (sym (g ∙ ap by (figure-refused b (valueEntries (length vs)) true f r q)))
 
-      go : (s : Bool) → ltb room width ≡ s → width ≤ room
+      go : (s : Bool) → cramped ≡ s → cramped ≡ false
       go true h =
           let q = ap (λ (s : Bool). figureVerdict f b (valueEntries (length vs)) (s || scratchShort (lengths x))) h in
           absurd (told (sumVerdict b (valueEntries (length vs)) true) refl (e ∙ ap by q))
-      go false h = ltb-false room width h
+      go false h = h
+
+-- with room for them and all numbers, ratings are not cramped
+pub ratings-room : (room numbers : ℕ) → ratingsCramped room numbers ≡ false → ratingsWidth ≤ room
+unfolding ratingsCramped
+ratings-room room numbers e = go (ltb room ratingsWidth) refl e
+  where
+    go : (s : Bool) → ltb room ratingsWidth ≡ s → (s || ltb numbers numbersWidth) ≡ false → ratingsWidth ≤ room
+    go true h q = let z : _≡_ {A = ℕ} 0 1 = cc in absurd (omega arith)
+    go false h q = ltb-false room ratingsWidth h

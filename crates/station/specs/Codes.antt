@@ -1,12 +1,12 @@
 -- A call's answer as one number, and the numbers that it writes. Definitions only.
 use mathlib.Core.List.{List, [], _∷_}
 use mathlib.Core.Bool.{Bool, cond, _||_}
-use Prim.Native.Nat.{ℕ, _+_, _*_, _%_}
-use lib.Dec.{ltb}
+use Prim.Native.Nat.{ℕ, _+_, _*_, _/_, _%_}
+use lib.Dec.{ltb, eqb}
 use lib.Ieee as Ieee
-use lib.Ieee.{Float, binary64}
+use lib.Ieee.{Float, nan, binary64}
 use lib.IntN.{pos}
-use lib.ListN.{length}
+use lib.ListN.{length, getD}
 use Rattle.chart_opening.specs.Header.{headerOk}
 use Rattle.chart_opening.specs.Conditions.{refusalNumber, refusalPlace, ifAccepted}
 use Rattle.chart_opening.specs.declared.Refusal.{Refusal}
@@ -18,8 +18,12 @@ use Rattle.osu_records.specs.Rows.{rowOf}
 use Rattle.eval_aim.specs.declared.AimRule.{AimRule}
 use Rattle.eval_aim.specs.declared.AimRule.the-variants.{TooFew, Spinner, Acute, Wide}
 use Rattle.skills.specs.declared.Skills.{Skills}
+use Rattle.skills_counts.specs.declared.ObjectCounts.{ObjectCounts}
+use Rattle.rating.specs.Mods.{modsOf}
+use Rattle.star_rating.specs.declared.Asked.{Asked}
+use Rattle.star_rating.specs.declared.Ratings.{Ratings}
 use Rattle.calls.specs.Tables.{valueEntries}
-use Rattle.calls.specs.Afresh.{Finding, aimIs, rhythmIs, Figure, Amount, totalsAre}
+use Rattle.calls.specs.Afresh.{Finding, aimIs, rhythmIs, Figure, Amount, totalsAre, countsAre, playedAre, ratingsAre}
 use Rattle.calls.specs.Conditions.{Scratch, lengths, scratchShort, Operation, figure, figureVerdict}
 use Rattle.calls.specs.Calls.{Answer, refused, replaced, inserted, removed, recordIs, valuesAre, detailIs, figureIs, State, Outcome, refuse, execute, outcome, cleared}
 
@@ -51,11 +55,28 @@ answerCode (figureIs a) = 0
 abbrev pub totalsRow : Skills → List Float
 totalsRow t = t .aim ∷ t .«aim_no_sliders» ∷ t .speed ∷ t .flashlight ∷ []
 
-abbrev pub totalsWidth : ℕ
-totalsWidth = 4
+-- document 02's order 2: weighted strains of aim, aim without sliders, speed; weighted sliders of the last two; difficult sliders; relevant notes
+abbrev pub countsRow : ObjectCounts → List Float
+countsRow c =
+    c .«aim_difficult_strain_count» ∷ c .«aim_no_sliders_difficult_strain_count» ∷ c .«speed_difficult_strain_count»
+    ∷ c .«aim_no_sliders_top_weighted_slider_count» ∷ c .«speed_top_weighted_slider_count» ∷ c .«aim_difficult_slider_count» ∷ c .«speed_note_count» ∷ []
 
+abbrev pub countsWidth : ℕ
+countsWidth = 7
+
+-- order 5: aim, speed and flashlight ratings, then the stars
+abbrev pub ratingsRow : Ratings → List Float
+ratingsRow r = r .aim ∷ r .speed ∷ r .flashlight ∷ r .stars ∷ []
+
+abbrev pub ratingsWidth : ℕ
+ratingsWidth = 4
+
+-- totals while playing go into a list of their own (`listAfter`)
 abbrev pub amountRow : Amount → List Float
 amountRow (totalsAre t) = totalsRow t
+amountRow (countsAre c) = countsRow c
+amountRow (playedAre ts) = []
+amountRow (ratingsAre r) = ratingsRow r
 
 -- the rule that answered: 0 too few predecessors, 1 a spinner, 2 the acute side of the last max, 3 its wide side
 abbrev pub ruleNumber : AimRule → Float
@@ -97,12 +118,29 @@ noRoom b = cond (headerOk b) Table Header
 unfoldable pub readInto : ℕ → ℕ → Operation → State → Outcome
 readInto need room a st = cond (ltb room need) (refuse st (noRoom (st .chart))) (outcome a st)
 
--- of a figure of as many numbers, as scratch does
-unfoldable pub intoVerdict : Figure → ℕ → ℕ → Scratch → State → Verdict
-intoVerdict f width room x st = figureVerdict f (st .chart) (valueEntries (length (st .values))) (ltb room width || scratchShort (lengths x))
+-- of a figure, as scratch does
+unfoldable pub intoVerdict : Figure → Bool → Scratch → State → Verdict
+intoVerdict f cramped x st = figureVerdict f (st .chart) (valueEntries (length (st .values))) (cramped || scratchShort (lengths x))
 
-unfoldable pub figureInto : Figure → ℕ → ℕ → Scratch → State → Outcome
-figureInto f width room x st = ifAccepted (intoVerdict f width room x st) (execute (figure f (lengths x)) st) (refuse st)
+unfoldable pub figureInto : Figure → Bool → Scratch → State → Outcome
+figureInto f cramped x st = ifAccepted (intoVerdict f cramped x st) (execute (figure f (lengths x)) st) (refuse st)
 
-unfoldable pub scratchInto : Figure → ℕ → ℕ → Scratch → State → Scratch
-scratchInto f width room x st = ifAccepted (intoVerdict f width room x st) (cleared x) (λ r. x)
+unfoldable pub scratchInto : Figure → Bool → Scratch → State → Scratch
+scratchInto f cramped x st = ifAccepted (intoVerdict f cramped x st) (cleared x) (λ r. x)
+
+-- ---- What comes with ratings: a word of mods, a word whose bits 0 and 1 say whether attraction strength and start scale are given, and five numbers
+
+abbrev pub numbersWidth : ℕ
+numbersWidth = 5
+
+unfoldable pub askedOf : ℕ → ℕ → List Float → Asked
+askedOf mods given numbers = record {
+  mods = modsOf mods (eqb (given % 2) 1) (getD numbers 3 nan) (eqb (given / 2 % 2) 1) (getD numbers 4 nan);
+  «approach_rate» = getD numbers 0 nan;
+  «overall_difficulty» = getD numbers 1 nan;
+  «base_multiplier» = getD numbers 2 nan;
+}
+
+-- no room for the ratings, or too few numbers
+unfoldable pub ratingsCramped : ℕ → ℕ → Bool
+ratingsCramped room numbers = ltb room ratingsWidth || ltb numbers numbersWidth

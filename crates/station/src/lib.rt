@@ -3,33 +3,50 @@
 ghost use mathlib.Core.Path.{_≡_};
 ghost use mathlib.Core.Bool.{true};
 ghost use mathlib.Core.List.{[]};
-ghost use Prim.Native.Nat.{_≤_};
-ghost use lib.ListN.{length};
+ghost use Prim.Native.Nat.{_/_, _≤_};
+ghost use lib.Dec.{ltb};
+ghost use lib.Ieee.{nan};
+ghost use lib.ListN.{length, getD};
 ghost use Rattle.num_tables.specs.Parts.{put};
 ghost use Rattle.chart_opening.specs.declared.Verdict.the-variants.{Refused};
 ghost use Rattle.calls.specs.Conditions as ops;
-ghost use Rattle.calls.specs.Afresh as asked;
-ghost use Rattle.calls.specs.Conditions.{sumVerdict};
-ghost use Rattle.calls.specs.Calls.{state, result, openAnswer, openLeaves, outcome};
+ghost use Rattle.calls.specs.Afresh as kinds;
+ghost use Rattle.calls.specs.Conditions.{lengths, sumVerdict};
+ghost use Rattle.calls.specs.Tables.{totalsWidth};
+ghost use Rattle.calls.specs.Calls.{state, result, openAnswer, openLeaves, verdictIn, outcome, listAfter, scratchAfter};
 ghost use Rattle.readings.specs.Answers.{recordAnswer, valuesAnswer, aimFinding, aimAnswer, rhythmAnswer};
-ghost use Rattle.figures.specs.Answers.{totalsAnswer, scratchOf};
-ghost use Rattle.station.specs.Codes.{codeOf, verdictCode, answerCode, ruleNumber, findingRow, numbersOf, totalsRow, aimWidth, rhythmWidth, totalsWidth};
+ghost use Rattle.figures.specs.Answers.{totalsAnswer, countsAnswer, ratingsAnswer, scratchOf};
+ghost use Rattle.station.specs.Codes.{codeOf, verdictCode, answerCode, ruleNumber, findingRow, numbersOf, totalsRow, countsRow, ratingsRow};
+ghost use Rattle.station.specs.Codes.{aimWidth, rhythmWidth, countsWidth, ratingsWidth, askedOf, ratingsCramped};
 ghost use Rattle.station.specs.Codes.{noRoom, readInto, figureInto, scratchInto};
 use chart_opening::Refusal;
 use chart_opening::Verdict;
 use eval_aim::AimRule;
+use figures::CountsAnswer;
+use figures::RatingsAnswer;
 use figures::TotalsAnswer;
+use rating::Mods;
 use readings::AimAnswer;
 use readings::AimDetail;
 use readings::RecordAnswer;
 use readings::RhythmAnswer;
 use readings::ValuesAnswer;
 use skills::Skills;
+use skills_counts::ObjectCounts;
+use star_rating::Asked;
+use star_rating::Ratings;
 
-// How many places a code tells apart, and how many totals there are.
+// How many places a code tells apart, and how many totals, counts and ratings there are.
 const PLACE_SPAN: usize = 0x1_0000_0000;
 
 const TOTALS_WIDTH: usize = 4;
+
+const COUNTS_WIDTH: usize = 7;
+
+const RATINGS_WIDTH: usize = 4;
+
+// Numbers that come with ratings.
+const NUMBERS_WIDTH: usize = 5;
 
 // Numbers of aim in its parts, and of the rhythm value with its comparisons.
 const AIM_WIDTH: usize = 18;
@@ -200,7 +217,7 @@ pub extern "C" fn difficulty_read_values(
 // Aim in its parts at a place, for an answer with as much room.
 fn aim_into(chart: &[u8], records: &[f64], place: usize, room: usize) -> AimAnswer
     ensures { λ r. ⌜ result (aimAnswer r) (now (chart .exit)) (now (records .exit)) []
-        ≡ readInto aimWidth room (ops.readDetail asked.aimParts place) (state (now (chart .entry)) (now (records .entry)) []) ⌝ }
+        ≡ readInto aimWidth room (ops.readDetail kinds.aimParts place) (state (now (chart .entry)) (now (records .entry)) []) ⌝ }
 {
     if room < AIM_WIDTH {
         return AimAnswer::Refused(no_room(chart));
@@ -259,9 +276,9 @@ pub extern "C" fn difficulty_read_aim_parts(
     place: usize,
     out: &mut [f64],
 ) -> u64
-    ensures answer { λ r. ⌜ r ≡ answerCode (readInto aimWidth (length (now (out .entry))) (ops.readDetail asked.aimParts place)
+    ensures answer { λ r. ⌜ r ≡ answerCode (readInto aimWidth (length (now (out .entry))) (ops.readDetail kinds.aimParts place)
         (state (now (chart .entry)) (now (records .entry)) []) .answer) ⌝ }
-    ensures out { λ _. ⌜ now (out .exit) ≡ put 0 (numbersOf (readInto aimWidth (length (now (out .entry))) (ops.readDetail asked.aimParts place)
+    ensures out { λ _. ⌜ now (out .exit) ≡ put 0 (numbersOf (readInto aimWidth (length (now (out .entry))) (ops.readDetail kinds.aimParts place)
         (state (now (chart .entry)) (now (records .entry)) []) .answer)) (now (out .entry)) ⌝ }
     ensures leaves { λ _. ⌜ state (now (chart .exit)) (now (records .exit)) [] ≡ state (now (chart .entry)) (now (records .entry)) [] ⌝ }
 {
@@ -277,7 +294,7 @@ pub extern "C" fn difficulty_read_aim_parts(
 // The rhythm value of a place with its comparisons, for an answer with as much room.
 fn rhythm_into(chart: &[u8], records: &[f64], place: usize, room: usize) -> RhythmAnswer
     ensures { λ r. ⌜ result (rhythmAnswer r) (now (chart .exit)) (now (records .exit)) []
-        ≡ readInto rhythmWidth room (ops.readDetail asked.rhythm place) (state (now (chart .entry)) (now (records .entry)) []) ⌝ }
+        ≡ readInto rhythmWidth room (ops.readDetail kinds.rhythm place) (state (now (chart .entry)) (now (records .entry)) []) ⌝ }
 {
     if room < RHYTHM_WIDTH {
         return RhythmAnswer::Refused(no_room(chart));
@@ -293,9 +310,9 @@ pub extern "C" fn difficulty_read_rhythm(
     place: usize,
     out: &mut [f64],
 ) -> u64
-    ensures answer { λ r. ⌜ r ≡ answerCode (readInto rhythmWidth (length (now (out .entry))) (ops.readDetail asked.rhythm place)
+    ensures answer { λ r. ⌜ r ≡ answerCode (readInto rhythmWidth (length (now (out .entry))) (ops.readDetail kinds.rhythm place)
         (state (now (chart .entry)) (now (records .entry)) []) .answer) ⌝ }
-    ensures out { λ _. ⌜ now (out .exit) ≡ put 0 (numbersOf (readInto rhythmWidth (length (now (out .entry))) (ops.readDetail asked.rhythm place)
+    ensures out { λ _. ⌜ now (out .exit) ≡ put 0 (numbersOf (readInto rhythmWidth (length (now (out .entry))) (ops.readDetail kinds.rhythm place)
         (state (now (chart .entry)) (now (records .entry)) []) .answer)) (now (out .entry)) ⌝ }
     ensures leaves { λ _. ⌜ state (now (chart .exit)) (now (records .exit)) [] ≡ state (now (chart .entry)) (now (records .entry)) [] ⌝ }
 {
@@ -319,7 +336,7 @@ fn refuse_sums(chart: &[u8], entries: usize) -> Refusal
     }
 }
 
-// The totals, for an answer with as much room.
+// The totals, where the answer has room or is cramped.
 fn totals_into(
     chart: &[u8],
     values: &[f64],
@@ -327,16 +344,16 @@ fn totals_into(
     aim_no_sliders: &mut [f64],
     speed: &mut [f64],
     flashlight: &mut [f64],
-    room: usize,
+    cramped: bool,
 ) -> TotalsAnswer
     ensures answer { λ r. ⌜ result (totalsAnswer r) (now (chart .exit)) [] (now (values .exit))
-        ≡ figureInto asked.totals totalsWidth room (scratchOf (now (aim .entry)) (now («aim_no_sliders» .entry)) (now (speed .entry)) (now (flashlight .entry)))
+        ≡ figureInto kinds.totals cramped (scratchOf (now (aim .entry)) (now («aim_no_sliders» .entry)) (now (speed .entry)) (now (flashlight .entry)))
         (state (now (chart .entry)) [] (now (values .entry))) ⌝ }
     ensures scratch { λ _. ⌜ scratchOf (now (aim .exit)) (now («aim_no_sliders» .exit)) (now (speed .exit)) (now (flashlight .exit))
-        ≡ scratchInto asked.totals totalsWidth room (scratchOf (now (aim .entry)) (now («aim_no_sliders» .entry)) (now (speed .entry)) (now (flashlight .entry)))
+        ≡ scratchInto kinds.totals cramped (scratchOf (now (aim .entry)) (now («aim_no_sliders» .entry)) (now (speed .entry)) (now (flashlight .entry)))
         (state (now (chart .entry)) [] (now (values .entry))) ⌝ }
 {
-    if room < TOTALS_WIDTH {
+    if cramped {
         return TotalsAnswer::Refused(refuse_sums(chart, values.len() / calls::VALUE_WIDTH));
     }
     figures::totals(chart, values, aim, aim_no_sliders, speed, flashlight)
@@ -365,15 +382,15 @@ pub extern "C" fn difficulty_totals(
     out: &mut [f64],
 ) -> u64
     ensures answer { λ r. ⌜ r
-        ≡ answerCode (figureInto asked.totals totalsWidth (length (now (out .entry)))
+        ≡ answerCode (figureInto kinds.totals (ltb (length (now (out .entry))) totalsWidth)
         (scratchOf (now (aim .entry)) (now («aim_no_sliders» .entry)) (now (speed .entry)) (now (flashlight .entry)))
         (state (now (chart .entry)) [] (now (values .entry))) .answer) ⌝ }
     ensures scratch { λ _. ⌜ scratchOf (now (aim .exit)) (now («aim_no_sliders» .exit)) (now (speed .exit)) (now (flashlight .exit))
-        ≡ scratchInto asked.totals totalsWidth (length (now (out .entry)))
+        ≡ scratchInto kinds.totals (ltb (length (now (out .entry))) totalsWidth)
         (scratchOf (now (aim .entry)) (now («aim_no_sliders» .entry)) (now (speed .entry)) (now (flashlight .entry)))
         (state (now (chart .entry)) [] (now (values .entry))) ⌝ }
     ensures out { λ _. ⌜ now (out .exit)
-        ≡ put 0 (numbersOf (figureInto asked.totals totalsWidth (length (now (out .entry)))
+        ≡ put 0 (numbersOf (figureInto kinds.totals (ltb (length (now (out .entry))) totalsWidth)
         (scratchOf (now (aim .entry)) (now («aim_no_sliders» .entry)) (now (speed .entry)) (now (flashlight .entry)))
         (state (now (chart .entry)) [] (now (values .entry))) .answer)) (now (out .entry)) ⌝ }
     ensures leaves { λ _. ⌜ state (now (chart .exit)) [] (now (values .exit)) ≡ state (now (chart .entry)) [] (now (values .entry)) ⌝ }
@@ -385,11 +402,296 @@ pub extern "C" fn difficulty_totals(
         aim_no_sliders,
         speed,
         flashlight,
-        out.len(),
+        out.len() < TOTALS_WIDTH,
     ) {
         TotalsAnswer::Refused(r) => code(r),
         TotalsAnswer::Totals(t) => {
             put_totals(out, t);
+            0
+        }
+    }
+}
+
+// The totals after the first m objects, where the answer has room or is cramped.
+fn totals_to_into(
+    chart: &[u8],
+    values: &[f64],
+    m: usize,
+    aim: &mut [f64],
+    aim_no_sliders: &mut [f64],
+    speed: &mut [f64],
+    flashlight: &mut [f64],
+    cramped: bool,
+) -> TotalsAnswer
+    ensures answer { λ r. ⌜ result (totalsAnswer r) (now (chart .exit)) [] (now (values .exit))
+        ≡ figureInto (kinds.totalsTo m) cramped (scratchOf (now (aim .entry)) (now («aim_no_sliders» .entry)) (now (speed .entry)) (now (flashlight .entry)))
+        (state (now (chart .entry)) [] (now (values .entry))) ⌝ }
+    ensures scratch { λ _. ⌜ scratchOf (now (aim .exit)) (now («aim_no_sliders» .exit)) (now (speed .exit)) (now (flashlight .exit))
+        ≡ scratchInto (kinds.totalsTo m) cramped (scratchOf (now (aim .entry)) (now («aim_no_sliders» .entry)) (now (speed .entry)) (now (flashlight .entry)))
+        (state (now (chart .entry)) [] (now (values .entry))) ⌝ }
+{
+    if cramped {
+        return TotalsAnswer::Refused(refuse_sums(chart, values.len() / calls::VALUE_WIDTH));
+    }
+    figures::totals_to(chart, values, m, aim, aim_no_sliders, speed, flashlight)
+}
+
+// Writes the four totals reached after the first m objects. Carried out, all scratch is 0.
+#[no_mangle]
+pub extern "C" fn difficulty_totals_to(
+    chart: &[u8],
+    values: &[f64],
+    m: usize,
+    aim: &mut [f64],
+    aim_no_sliders: &mut [f64],
+    speed: &mut [f64],
+    flashlight: &mut [f64],
+    out: &mut [f64],
+) -> u64
+    ensures answer { λ r. ⌜ r ≡ answerCode (figureInto (kinds.totalsTo m) (ltb (length (now (out .entry))) totalsWidth)
+        (scratchOf (now (aim .entry)) (now («aim_no_sliders» .entry)) (now (speed .entry)) (now (flashlight .entry))) (state (now (chart .entry)) [] (now (values .entry))) .answer) ⌝ }
+    ensures scratch { λ _. ⌜ scratchOf (now (aim .exit)) (now («aim_no_sliders» .exit)) (now (speed .exit)) (now (flashlight .exit))
+        ≡ scratchInto (kinds.totalsTo m) (ltb (length (now (out .entry))) totalsWidth)
+        (scratchOf (now (aim .entry)) (now («aim_no_sliders» .entry)) (now (speed .entry)) (now (flashlight .entry))) (state (now (chart .entry)) [] (now (values .entry))) ⌝ }
+    ensures out { λ _. ⌜ now (out .exit) ≡ put 0 (numbersOf (figureInto (kinds.totalsTo m) (ltb (length (now (out .entry))) totalsWidth)
+        (scratchOf (now (aim .entry)) (now («aim_no_sliders» .entry)) (now (speed .entry)) (now (flashlight .entry))) (state (now (chart .entry)) [] (now (values .entry))) .answer)) (now (out .entry)) ⌝ }
+    ensures leaves { λ _. ⌜ state (now (chart .exit)) [] (now (values .exit)) ≡ state (now (chart .entry)) [] (now (values .entry)) ⌝ }
+{
+    match totals_to_into(
+        chart,
+        values,
+        m,
+        aim,
+        aim_no_sliders,
+        speed,
+        flashlight,
+        out.len() < TOTALS_WIDTH,
+    ) {
+        TotalsAnswer::Refused(r) => code(r),
+        TotalsAnswer::Totals(t) => {
+            put_totals(out, t);
+            0
+        }
+    }
+}
+
+// Fills a list of four numbers an entry with the totals reached after every number of objects, from 0 to N. Carried out, all scratch is 0.
+#[no_mangle]
+pub extern "C" fn difficulty_totals_while_playing(
+    chart: &[u8],
+    values: &[f64],
+    list: &mut [f64],
+    aim: &mut [f64],
+    aim_no_sliders: &mut [f64],
+    speed: &mut [f64],
+    flashlight: &mut [f64],
+) -> u64
+    ensures answer { λ r. ⌜ r ≡ verdictCode (verdictIn (ops.figure (kinds.playing (length (now (list .entry)) / totalsWidth)) (lengths
+        (scratchOf (now (aim .entry)) (now («aim_no_sliders» .entry)) (now (speed .entry)) (now (flashlight .entry))))) (state (now (chart .entry)) [] (now (values .entry)))) ⌝ }
+    ensures list { λ _. ⌜ now (list .exit) ≡ listAfter (outcome (ops.figure (kinds.playing (length (now (list .entry)) / totalsWidth)) (lengths
+        (scratchOf (now (aim .entry)) (now («aim_no_sliders» .entry)) (now (speed .entry)) (now (flashlight .entry))))) (state (now (chart .entry)) [] (now (values .entry))) .answer) (now (list .entry)) ⌝ }
+    ensures leaves { λ _. ⌜ state (now (chart .exit)) [] (now (values .exit)) ≡ state (now (chart .entry)) [] (now (values .entry)) ⌝ }
+    ensures scratch { λ _. ⌜ scratchOf (now (aim .exit)) (now («aim_no_sliders» .exit)) (now (speed .exit)) (now (flashlight .exit))
+        ≡ scratchAfter (kinds.playing (length (now (list .entry)) / totalsWidth)) (state (now (chart .entry)) [] (now (values .entry)))
+        (scratchOf (now (aim .entry)) (now («aim_no_sliders» .entry)) (now (speed .entry)) (now (flashlight .entry))) ⌝ }
+{
+    match figures::totals_while_playing(
+        chart,
+        values,
+        list,
+        aim,
+        aim_no_sliders,
+        speed,
+        flashlight,
+    ) {
+        Verdict::Refused(r) => code(r),
+        Verdict::Accepted => 0,
+    }
+}
+
+// The seven counts, where the answer has room or is cramped.
+fn counts_into(
+    chart: &[u8],
+    values: &[f64],
+    aim: &mut [f64],
+    aim_no_sliders: &mut [f64],
+    speed: &mut [f64],
+    flashlight: &mut [f64],
+    cramped: bool,
+) -> CountsAnswer
+    ensures answer { λ r. ⌜ result (countsAnswer r) (now (chart .exit)) [] (now (values .exit))
+        ≡ figureInto kinds.counts cramped (scratchOf (now (aim .entry)) (now («aim_no_sliders» .entry)) (now (speed .entry)) (now (flashlight .entry)))
+        (state (now (chart .entry)) [] (now (values .entry))) ⌝ }
+    ensures scratch { λ _. ⌜ scratchOf (now (aim .exit)) (now («aim_no_sliders» .exit)) (now (speed .exit)) (now (flashlight .exit))
+        ≡ scratchInto kinds.counts cramped (scratchOf (now (aim .entry)) (now («aim_no_sliders» .entry)) (now (speed .entry)) (now (flashlight .entry)))
+        (state (now (chart .entry)) [] (now (values .entry))) ⌝ }
+{
+    if cramped {
+        return CountsAnswer::Refused(refuse_sums(chart, values.len() / calls::VALUE_WIDTH));
+    }
+    figures::counts(chart, values, aim, aim_no_sliders, speed, flashlight)
+}
+
+// Writes the seven counts.
+fn put_counts(out: &mut [f64], c: ObjectCounts)
+    requires { ⌜ countsWidth ≤ length (now out) ⌝ }
+    ensures { λ _. ⌜ now (out .exit) ≡ put 0 (countsRow c) (now (out .entry)) ⌝ }
+{
+    out[0] = c.aim_difficult_strain_count;
+    out[1] = c.aim_no_sliders_difficult_strain_count;
+    out[2] = c.speed_difficult_strain_count;
+    out[3] = c.aim_no_sliders_top_weighted_slider_count;
+    out[4] = c.speed_top_weighted_slider_count;
+    out[5] = c.aim_difficult_slider_count;
+    out[6] = c.speed_note_count;
+}
+
+// Writes how many objects carry the chart, seven counts. Carried out, all scratch is 0.
+#[no_mangle]
+pub extern "C" fn difficulty_counts(
+    chart: &[u8],
+    values: &[f64],
+    aim: &mut [f64],
+    aim_no_sliders: &mut [f64],
+    speed: &mut [f64],
+    flashlight: &mut [f64],
+    out: &mut [f64],
+) -> u64
+    ensures answer { λ r. ⌜ r ≡ answerCode (figureInto kinds.counts (ltb (length (now (out .entry))) countsWidth)
+        (scratchOf (now (aim .entry)) (now («aim_no_sliders» .entry)) (now (speed .entry)) (now (flashlight .entry))) (state (now (chart .entry)) [] (now (values .entry))) .answer) ⌝ }
+    ensures scratch { λ _. ⌜ scratchOf (now (aim .exit)) (now («aim_no_sliders» .exit)) (now (speed .exit)) (now (flashlight .exit))
+        ≡ scratchInto kinds.counts (ltb (length (now (out .entry))) countsWidth)
+        (scratchOf (now (aim .entry)) (now («aim_no_sliders» .entry)) (now (speed .entry)) (now (flashlight .entry))) (state (now (chart .entry)) [] (now (values .entry))) ⌝ }
+    ensures out { λ _. ⌜ now (out .exit) ≡ put 0 (numbersOf (figureInto kinds.counts (ltb (length (now (out .entry))) countsWidth)
+        (scratchOf (now (aim .entry)) (now («aim_no_sliders» .entry)) (now (speed .entry)) (now (flashlight .entry))) (state (now (chart .entry)) [] (now (values .entry))) .answer)) (now (out .entry)) ⌝ }
+    ensures leaves { λ _. ⌜ state (now (chart .exit)) [] (now (values .exit)) ≡ state (now (chart .entry)) [] (now (values .entry)) ⌝ }
+{
+    match counts_into(
+        chart,
+        values,
+        aim,
+        aim_no_sliders,
+        speed,
+        flashlight,
+        out.len() < COUNTS_WIDTH,
+    ) {
+        CountsAnswer::Refused(r) => code(r),
+        CountsAnswer::Counts(c) => {
+            put_counts(out, c);
+            0
+        }
+    }
+}
+
+// Number i of those that come with ratings; a NaN where there are fewer.
+fn number_at(numbers: &[f64], i: usize) -> f64
+    ensures { λ r. ⌜ r ≡ getD (now (numbers .entry)) i nan ⌝ }
+{
+    if i < numbers.len() {
+        return numbers[i];
+    }
+    num_floats::nan()
+}
+
+// What comes with ratings.
+fn asked_of(mods: u32, given: u32, numbers: &[f64]) -> Asked
+    ensures { λ r. ⌜ r ≡ askedOf mods given (now (numbers .entry)) ⌝ }
+{
+    let approach_rate = number_at(numbers, 0);
+    let overall_difficulty = number_at(numbers, 1);
+    let base_multiplier = number_at(numbers, 2);
+    let strength = number_at(numbers, 3);
+    let scale = number_at(numbers, 4);
+    let mods = Mods::from_word(mods, given % 2 == 1, strength, given / 2 % 2 == 1, scale);
+    Asked {
+        mods: mods,
+        approach_rate: approach_rate,
+        overall_difficulty: overall_difficulty,
+        base_multiplier: base_multiplier,
+    }
+}
+
+// Whether there is no room for the ratings, or too few numbers.
+fn ratings_cramped(room: usize, numbers: usize) -> bool
+    ensures { λ r. ⌜ r ≡ ratingsCramped room numbers ⌝ }
+{
+    (room < RATINGS_WIDTH) | (numbers < NUMBERS_WIDTH)
+}
+
+// The ratings and the stars, where the answer has room or is cramped.
+fn ratings_into(
+    chart: &[u8],
+    values: &[f64],
+    asked: Asked,
+    aim: &mut [f64],
+    aim_no_sliders: &mut [f64],
+    speed: &mut [f64],
+    flashlight: &mut [f64],
+    cramped: bool,
+) -> RatingsAnswer
+    ensures answer { λ r. ⌜ result (ratingsAnswer r) (now (chart .exit)) [] (now (values .exit))
+        ≡ figureInto (kinds.ratings asked) cramped (scratchOf (now (aim .entry)) (now («aim_no_sliders» .entry)) (now (speed .entry)) (now (flashlight .entry)))
+        (state (now (chart .entry)) [] (now (values .entry))) ⌝ }
+    ensures scratch { λ _. ⌜ scratchOf (now (aim .exit)) (now («aim_no_sliders» .exit)) (now (speed .exit)) (now (flashlight .exit))
+        ≡ scratchInto (kinds.ratings asked) cramped (scratchOf (now (aim .entry)) (now («aim_no_sliders» .entry)) (now (speed .entry)) (now (flashlight .entry)))
+        (state (now (chart .entry)) [] (now (values .entry))) ⌝ }
+{
+    if cramped {
+        return RatingsAnswer::Refused(refuse_sums(chart, values.len() / calls::VALUE_WIDTH));
+    }
+    figures::ratings(chart, values, asked, aim, aim_no_sliders, speed, flashlight)
+}
+
+// Writes the three ratings and the stars.
+fn put_ratings(out: &mut [f64], r: Ratings)
+    requires { ⌜ ratingsWidth ≤ length (now out) ⌝ }
+    ensures { λ _. ⌜ now (out .exit) ≡ put 0 (ratingsRow r) (now (out .entry)) ⌝ }
+{
+    out[0] = r.aim;
+    out[1] = r.speed;
+    out[2] = r.flashlight;
+    out[3] = r.stars;
+}
+
+// Writes aim, speed and flashlight ratings and the stars, under mods and with numbers that come with the call. Carried out, all scratch is 0.
+#[no_mangle]
+pub extern "C" fn difficulty_ratings(
+    chart: &[u8],
+    values: &[f64],
+    mods: u32,
+    given: u32,
+    numbers: &[f64],
+    aim: &mut [f64],
+    aim_no_sliders: &mut [f64],
+    speed: &mut [f64],
+    flashlight: &mut [f64],
+    out: &mut [f64],
+) -> u64
+    ensures answer { λ r. ⌜ r ≡ answerCode (figureInto (kinds.ratings (askedOf mods given (now (numbers .entry)))) (ratingsCramped (length (now (out .entry))) (length (now (numbers .entry))))
+        (scratchOf (now (aim .entry)) (now («aim_no_sliders» .entry)) (now (speed .entry)) (now (flashlight .entry))) (state (now (chart .entry)) [] (now (values .entry))) .answer) ⌝ }
+    ensures scratch { λ _. ⌜ scratchOf (now (aim .exit)) (now («aim_no_sliders» .exit)) (now (speed .exit)) (now (flashlight .exit))
+        ≡ scratchInto (kinds.ratings (askedOf mods given (now (numbers .entry)))) (ratingsCramped (length (now (out .entry))) (length (now (numbers .entry))))
+        (scratchOf (now (aim .entry)) (now («aim_no_sliders» .entry)) (now (speed .entry)) (now (flashlight .entry))) (state (now (chart .entry)) [] (now (values .entry))) ⌝ }
+    ensures out { λ _. ⌜ now (out .exit) ≡ put 0 (numbersOf (figureInto (kinds.ratings (askedOf mods given (now (numbers .entry)))) (ratingsCramped (length (now (out .entry))) (length (now (numbers .entry))))
+        (scratchOf (now (aim .entry)) (now («aim_no_sliders» .entry)) (now (speed .entry)) (now (flashlight .entry))) (state (now (chart .entry)) [] (now (values .entry))) .answer)) (now (out .entry)) ⌝ }
+    ensures leaves { λ _. ⌜ state (now (chart .exit)) [] (now (values .exit)) ≡ state (now (chart .entry)) [] (now (values .entry)) ⌝ }
+    ensures numbers { λ _. ⌜ now (numbers .exit) ≡ now (numbers .entry) ⌝ }
+{
+    let cramped = ratings_cramped(out.len(), numbers.len());
+    let asked = asked_of(mods, given, numbers);
+    match ratings_into(
+        chart,
+        values,
+        asked,
+        aim,
+        aim_no_sliders,
+        speed,
+        flashlight,
+        cramped,
+    ) {
+        RatingsAnswer::Refused(r) => code(r),
+        RatingsAnswer::Ratings(x) => {
+            put_ratings(out, x);
             0
         }
     }

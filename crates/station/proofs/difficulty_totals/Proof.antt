@@ -1,12 +1,12 @@
 -- `station::difficulty_totals` meets its contract. Assumes nothing.
 use mathlib.Core.Path.{sym, ap, _∙_}
-use lib.ListN.{length}
+use borrow.Author.Tests.{ltb-false}
 use Rattle.num_tables.specs.Parts.{put}
 use mathlib.Core.Path.{refl}
 use Rattle.calls.specs.Afresh.{totals}
 use Rattle.calls.specs.Calls.{Answer, Outcome}
 use Rattle.figures.specs.Answers.{totalsAnswer, scratchOf}
-use Rattle.station.specs.Codes.{totalsWidth, answerCode, numbersOf}
+use Rattle.station.specs.Codes.{answerCode, numbersOf}
 use Rattle.station.proofs.Rooms.{put-none, figure-room}
 use borrow.Author.Needs.{needs}
 use Rattle.station.proofs.difficulty_totals.Statement.{statement}
@@ -28,7 +28,7 @@ put-totals-requires : tie.Need-put-totals-requires
 put-totals-requires c κs =
     let a = c .before .before .before .before .before .before .before .before .before .before .before .before .before .before .before .before .before .before .before .before .before .before .before .before .args in
     let p = sym (ap totalsAnswer (c .before .before .t .given .1)) ∙ ap (λ (x : Outcome). x .answer) (c .before .before .before .before .before .before .before .before .before .before .before .before .totals-into .ensures .0) in
-    figure-room totals totalsWidth (length (a .out .now)) (scratchOf (a .aim .now) (a .aim-no-sliders .now) (a .speed .now) (a .flashlight .now)) (a .chart .now) (a .values .now) _ p
+    ltb-false _ _ (figure-room totals _ (scratchOf (a .aim .now) (a .aim-no-sliders .now) (a .speed .now) (a .flashlight .now)) (a .chart .now) (a .values .now) _ p)
 
 same-length : tie.Need-same-length
 same-length c = search needs

@@ -2,7 +2,6 @@
 use mathlib.Core.Path.{sym, _∙_}
 use Rattle.calls.specs.Afresh.{totals}
 use Rattle.figures.specs.Answers.{scratchOf}
-use Rattle.station.specs.Codes.{totalsWidth}
 use Rattle.station.proofs.Rooms.{figure-short, figure-long}
 use borrow.Author.Needs.{needs}
 use Rattle.station.proofs.totals_into.Statement.{statement}
@@ -14,7 +13,7 @@ refuse-sums-requires c κs = search needs
 returns : tie.Need-returns
 returns c =
     let a = c .before .before .before .before .before .before .before .before .args in
-    let h = figure-short totals totalsWidth (a .room) (scratchOf (a .aim .now) (a .aim-no-sliders .now) (a .speed .now) (a .flashlight .now)) (a .chart .now) (a .values .now) (c .before .if1 .taken) _ (c .refuse-sums .ensures) in
+    let h = figure-short totals (a .cramped) (scratchOf (a .aim .now) (a .aim-no-sliders .now) (a .speed .now) (a .flashlight .now)) (a .chart .now) (a .values .now) (c .before .if1 .taken) _ (c .refuse-sums .ensures) in
     (sym (h .0), sym (h .1))
 
 totals-requires : tie.Need-totals-requires
@@ -35,7 +34,7 @@ same-length-4 c = search needs
 returns-2 : tie.Need-returns-2
 returns-2 c =
     let a = c .before .before .before .before .before .before .before .before .before .before .before .before .before .before .before .before .before .before .before .before .args in
-    let h = figure-long totals totalsWidth (a .room) (scratchOf (a .aim .now) (a .aim-no-sliders .now) (a .speed .now) (a .flashlight .now)) (a .chart .now) (a .values .now) (c .before .before .before .before .before .before .before .before .before .before .before .before .before .if1 .left) in
+    let h = figure-long totals (a .cramped) (scratchOf (a .aim .now) (a .aim-no-sliders .now) (a .speed .now) (a .flashlight .now)) (a .chart .now) (a .values .now) (c .before .before .before .before .before .before .before .before .before .before .before .before .before .if1 .left) in
     (c .before .before .before .before .before .before .before .before .totals .ensures .0 ∙ sym (h .0), c .before .before .before .before .before .before .before .before .totals .ensures .1 ∙ sym (h .1))
 
 pub totals-into-spec : {M : Type 1} → statement M
