@@ -44,8 +44,8 @@ impl Station {
     fn ratings(&mut self) {
         let scratch = self.scratch.each_mut().map(|s| &mut s[..]);
         let numbers = [9.5, 8.0, 1.14, 0.5, 2.0];
-        let word = mods::HIDDEN | mods::FLASHLIGHT | mods::ATTRACTION | mods::START_SCALE;
-        station::ratings(&self.chart, &self.values, word, &numbers, scratch, &mut [0.0; RATINGS]).unwrap();
+        let (word, given) = (mods::HIDDEN | mods::FLASHLIGHT, mods::ATTRACTION | mods::START_SCALE);
+        station::ratings(&self.chart, &self.values, word, given, &numbers, scratch, &mut [0.0; RATINGS]).unwrap();
     }
 
     fn playing(&mut self, list: &mut [f64]) {

@@ -91,8 +91,8 @@ static void show(struct station *s, size_t place) {
     print_figure("counts", difficulty_guarded_counts(OPENED(s), SCRATCH(s), out, DIFFICULTY_COUNTS), out, DIFFICULTY_COUNTS);
     print_figure("prefix", difficulty_guarded_totals_to(OPENED(s), place, SCRATCH(s), out, DIFFICULTY_TOTALS), out, DIFFICULTY_TOTALS);
     const double numbers[DIFFICULTY_NUMBERS] = {9.5, 8.0, 1.14, INFINITY, 2.0}; /* attraction strength is not given, and not read */
-    uint32_t mods = DIFFICULTY_HIDDEN | DIFFICULTY_FLASHLIGHT | DIFFICULTY_START_SCALE;
-    uint64_t answer = difficulty_guarded_ratings(OPENED(s), mods, numbers, DIFFICULTY_NUMBERS, SCRATCH(s), out, DIFFICULTY_RATINGS);
+    uint32_t mods = DIFFICULTY_HIDDEN | DIFFICULTY_FLASHLIGHT;
+    uint64_t answer = difficulty_guarded_ratings(OPENED(s), mods, DIFFICULTY_START_SCALE, numbers, DIFFICULTY_NUMBERS, SCRATCH(s), out, DIFFICULTY_RATINGS);
     print_figure("ratings", answer, out, DIFFICULTY_RATINGS);
 }
 
@@ -104,7 +104,7 @@ static void show_playing(struct station *s) {
     print_figure("prefixes", difficulty_guarded_totals_while_playing(OPENED(s), list, length - 1, SCRATCH(s)), list, length);
     print_figure("prefix", difficulty_guarded_totals_to(OPENED(s), n + 1, SCRATCH(s), out, DIFFICULTY_TOTALS), out, DIFFICULTY_TOTALS);
     const double numbers[DIFFICULTY_NUMBERS] = {9.5, 8.0, INFINITY, 0.0, 0.0};
-    uint64_t answer = difficulty_guarded_ratings(OPENED(s), 0, numbers, DIFFICULTY_NUMBERS, SCRATCH(s), out, DIFFICULTY_RATINGS);
+    uint64_t answer = difficulty_guarded_ratings(OPENED(s), 0, 0, numbers, DIFFICULTY_NUMBERS, SCRATCH(s), out, DIFFICULTY_RATINGS);
     print_figure("ratings", answer, out, DIFFICULTY_RATINGS);
     free(list);
 }

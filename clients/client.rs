@@ -62,8 +62,8 @@ impl Station {
         print_figure("counts", guarded(|| station::counts(&self.chart, &self.values, lent(&mut self.scratch), &mut counts)), &counts);
         print_figure("prefix", guarded(|| station::totals_to(&self.chart, &self.values, place, lent(&mut self.scratch), &mut totals)), &totals);
         let numbers = [9.5, 8.0, 1.14, f64::INFINITY, 2.0]; // attraction strength is not given, and not read
-        let word = mods::HIDDEN | mods::FLASHLIGHT | mods::START_SCALE;
-        print_figure("ratings", guarded(|| station::ratings(&self.chart, &self.values, word, &numbers, lent(&mut self.scratch), &mut ratings)), &ratings);
+        let (word, given) = (mods::HIDDEN | mods::FLASHLIGHT, mods::START_SCALE);
+        print_figure("ratings", guarded(|| station::ratings(&self.chart, &self.values, word, given, &numbers, lent(&mut self.scratch), &mut ratings)), &ratings);
     }
 
     /// The totals while playing, for all numbers of objects; then a list one entry short (7), one object too many (8) and a base multiplier that is not finite (10).
@@ -76,7 +76,7 @@ impl Station {
         }
         print_figure("prefix", guarded(|| station::totals_to(&self.chart, &self.values, n + 1, lent(&mut self.scratch), &mut out)), &out);
         let numbers = [9.5, 8.0, f64::INFINITY, 0.0, 0.0];
-        print_figure("ratings", guarded(|| station::ratings(&self.chart, &self.values, 0, &numbers, lent(&mut self.scratch), &mut out)), &out);
+        print_figure("ratings", guarded(|| station::ratings(&self.chart, &self.values, 0, 0, &numbers, lent(&mut self.scratch), &mut out)), &out);
     }
 
     fn object(&self, place: usize) -> Vec<u8> {

@@ -29,7 +29,7 @@ enum Figure {
     Counts,
     Reached(usize),
     Playing,
-    Ratings(u32, Vec<f64>),
+    Ratings(u32, u32, Vec<f64>),
 }
 
 struct Random(u64);
@@ -488,7 +488,7 @@ impl Round {
             _ => {
                 let usual = [9.5, 8.0, 1.14, 0.5, 2.0, -3.0, 7.5, 10.33, 11.2, 0.0];
                 let numbers = (0..NUMBERS).map(|_| if r.one_in(12) { r.wild() } else { usual[r.below(usual.len())] }).collect();
-                Figure::Ratings(r.word() as u32, if r.one_in(12) { vec![1.0; r.below(NUMBERS)] } else { numbers })
+                Figure::Ratings(r.word() as u32, r.word() as u32, if r.one_in(12) { vec![1.0; r.below(NUMBERS)] } else { numbers })
             }
         }
     }
@@ -511,11 +511,11 @@ impl Round {
             Figure::Counts => ("counts".into(), room < w),
             Figure::Reached(m) => (format!("prefix {m}"), room < w),
             Figure::Playing => (format!("prefixes {}", room / TOTALS), false),
-            Figure::Ratings(word, numbers) => {
+            Figure::Ratings(word, given, numbers) => {
                 let bits: Vec<String> = (0..NUMBERS).map(|k| numbers.get(k).map_or("0".repeat(16), |x| format!("{:016x}", x.to_bits()))).collect();
-                let given = |bit, k: usize| if word & bit != 0 { &bits[k][..] } else { "-" };
-                let two = [given(mods::ATTRACTION, 3), given(mods::START_SCALE, 4)];
-                (format!("ratings {} {} {} {} {} {}", word & !(mods::ATTRACTION | mods::START_SCALE), bits[0], bits[1], bits[2], two[0], two[1]), room < w || numbers.len() < NUMBERS)
+                let optional = |bit, k: usize| if given & bit != 0 { &bits[k][..] } else { "-" };
+                let two = [optional(mods::ATTRACTION, 3), optional(mods::START_SCALE, 4)];
+                (format!("ratings {word} {} {} {} {} {}", bits[0], bits[1], bits[2], two[0], two[1]), room < w || numbers.len() < NUMBERS)
             }
         };
         let told = if short { [0; 4] } else { lengths };
@@ -541,7 +541,7 @@ impl Round {
             Figure::Counts => station::counts(&self.chart, table, slices, &mut out),
             Figure::Reached(m) => station::totals_to(&self.chart, table, *m, slices, &mut out),
             Figure::Playing => station::totals_while_playing(&self.chart, table, &mut out, slices),
-            Figure::Ratings(word, numbers) => station::ratings(&self.chart, table, *word, numbers, slices, &mut out),
+            Figure::Ratings(word, given, numbers) => station::ratings(&self.chart, table, *word, *given, numbers, slices, &mut out),
         };
         assert!(chart == self.chart && same(&values, &self.values), "a figure changes neither chart nor table");
         if answer.is_ok() {

@@ -15,7 +15,7 @@ pub const RATINGS: usize = 4;
 pub const NUMBERS: usize = 5;
 pub const SCRATCH: usize = 8192;
 
-/// Bits of the word of mods that comes with a call for ratings; the last two say that the number is given.
+/// Bits of the word of mods that comes with a call for ratings; the last two are of the word that says which numbers are given.
 pub mod mods {
     pub const AUTOPILOT: u32 = 1;
     pub const RELAX: u32 = 1 << 1;
@@ -24,8 +24,8 @@ pub mod mods {
     pub const FLASHLIGHT: u32 = 1 << 4;
     pub const TRACEABLE: u32 = 1 << 5;
     pub const FADE_ONLY: u32 = 1 << 6;
-    pub const ATTRACTION: u32 = 1 << 30;
-    pub const START_SCALE: u32 = 1 << 31;
+    pub const ATTRACTION: u32 = 1;
+    pub const START_SCALE: u32 = 1 << 1;
 }
 
 mod library {
@@ -55,7 +55,7 @@ mod library {
             speed: *mut f64, sl: usize, light: *mut f64, ll: usize,
         ) -> u64;
         pub fn difficulty_ratings(
-            c: *const u8, cl: usize, v: *const f64, vl: usize, mods: u32, numbers: *const f64, bl: usize, aim: *mut f64, al: usize, still: *mut f64, nl: usize,
+            c: *const u8, cl: usize, v: *const f64, vl: usize, mods: u32, given: u32, numbers: *const f64, bl: usize, aim: *mut f64, al: usize, still: *mut f64, nl: usize,
             speed: *mut f64, sl: usize, light: *mut f64, ll: usize, out: *mut f64, ol: usize,
         ) -> u64;
     }
@@ -206,11 +206,11 @@ pub fn totals_while_playing(chart: &[u8], values: &[f64], list: &mut [f64], scra
     })
 }
 
-pub fn ratings(chart: &[u8], values: &[f64], mods: u32, numbers: &[f64], scratch: [&mut [f64]; 4], out: &mut [f64]) -> Answer {
+pub fn ratings(chart: &[u8], values: &[f64], mods: u32, given: u32, numbers: &[f64], scratch: [&mut [f64]; 4], out: &mut [f64]) -> Answer {
     let [aim, still, speed, light] = scratch;
     answer(unsafe {
         library::difficulty_ratings(
-            chart.as_ptr(), chart.len(), values.as_ptr(), values.len(), mods, numbers.as_ptr(), numbers.len(), aim.as_mut_ptr(), aim.len(), still.as_mut_ptr(), still.len(),
+            chart.as_ptr(), chart.len(), values.as_ptr(), values.len(), mods, given, numbers.as_ptr(), numbers.len(), aim.as_mut_ptr(), aim.len(), still.as_mut_ptr(), still.len(),
             speed.as_mut_ptr(), speed.len(), light.as_mut_ptr(), light.len(), out.as_mut_ptr(), out.len(),
         )
     })

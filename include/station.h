@@ -68,15 +68,21 @@ enum {
 };
 
 /* Bits of the word of mods that comes with a call for ratings. Hidden and autopilot of the chart's header are other ones: those steer the evaluators. */
-#define DIFFICULTY_AUTOPILOT    UINT32_C(0x00000001)
-#define DIFFICULTY_RELAX        UINT32_C(0x00000002)
-#define DIFFICULTY_TOUCH_DEVICE UINT32_C(0x00000004)
-#define DIFFICULTY_HIDDEN       UINT32_C(0x00000008)
-#define DIFFICULTY_FLASHLIGHT   UINT32_C(0x00000010)
-#define DIFFICULTY_TRACEABLE    UINT32_C(0x00000020)
-#define DIFFICULTY_FADE_ONLY    UINT32_C(0x00000040)
-#define DIFFICULTY_ATTRACTION   UINT32_C(0x40000000)  /* attraction strength is given */
-#define DIFFICULTY_START_SCALE  UINT32_C(0x80000000)  /* start scale is given */
+enum {
+    DIFFICULTY_AUTOPILOT = 1,
+    DIFFICULTY_RELAX = 2,
+    DIFFICULTY_TOUCH_DEVICE = 4,
+    DIFFICULTY_HIDDEN = 8,
+    DIFFICULTY_FLASHLIGHT = 16,
+    DIFFICULTY_TRACEABLE = 32,
+    DIFFICULTY_FADE_ONLY = 64
+};
+
+/* Bits of the word that says which numbers are given with it. */
+enum {
+    DIFFICULTY_ATTRACTION = 1,      /* attraction strength */
+    DIFFICULTY_START_SCALE = 2      /* start scale */
+};
 
 /* The number (1 to 10) and the place of a refusal; the number of 0 is 0. */
 static inline unsigned difficulty_number(uint64_t answer) { return (unsigned)(answer >> 32); }
@@ -205,15 +211,15 @@ uint64_t difficulty_totals_while_playing(const uint8_t *chart, size_t chart_leng
                                          double *speed, size_t speed_length,
                                          double *flashlight, size_t flashlight_length);
 
-/* Writes the aim, speed and flashlight ratings and the stars to the first 4 numbers of out, under a word of mods (DIFFICULTY_HIDDEN and so on; bits 7 to 29 are
- * not read) and with five numbers: 0 approach rate, 1 overall difficulty, 2 base multiplier, and, where their bits of the word are set, 3 attraction strength
- * and 4 start scale. One that is not given is not read; it has its place all the same.
+/* Writes the aim, speed and flashlight ratings and the stars to the first 4 numbers of out, under a word of mods (DIFFICULTY_HIDDEN and so on; other bits
+ * are not read) and with five numbers: 0 approach rate, 1 overall difficulty, 2 base multiplier, and, where their bits of `given` are set (DIFFICULTY_ATTRACTION,
+ * DIFFICULTY_START_SCALE; other bits are not read), 3 attraction strength and 4 start scale. One that is not given is not read; it has its place all the same.
  * Approach rate and overall difficulty are used as they come, not divided by the clock rate. A rating may be NaN.
  * Conditions and scratch are those of difficulty_totals; 7 too where numbers has fewer than 5; then 10 where a number that is given is not finite, also
  * where no rating reads it. */
 uint64_t difficulty_ratings(const uint8_t *chart, size_t chart_length,
                             const double *values, size_t values_length,
-                            uint32_t mods, const double *numbers, size_t numbers_length,
+                            uint32_t mods, uint32_t given, const double *numbers, size_t numbers_length,
                             double *aim, size_t aim_length,
                             double *aim_no_sliders, size_t aim_no_sliders_length,
                             double *speed, size_t speed_length,

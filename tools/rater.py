@@ -27,7 +27,6 @@ import compare
 import ratings
 
 CRATE = os.path.join(os.path.dirname(os.path.dirname(os.path.abspath(__file__))), "crates", "rater")
-BEYOND = (1 << 30) - 1  # bits of the word that are not read stay below those that say what is given
 SAVED = 1 << 2 | 1 << 3 | 1 << 4, 3, [9.5, 8.0, 1.14, 0.25, 2.0]  # touch device, hidden, flashlight
 
 
@@ -42,12 +41,12 @@ def questions(r, count):
 
 
 def given_bytes(word, given, numbers):
-    return struct.pack("<II5d", word & BEYOND | given << 30, 0, *numbers)
+    return struct.pack("<II5d", word, given, *numbers)
 
 
 def words(word, given, numbers):
     """The oracle's."""
-    return ["ratings", str(word & BEYOND), *map(ratings.word, numbers[:3]), *(ratings.optional(given >> k & 1, numbers[3 + k]) for k in (0, 1))]
+    return ["ratings", str(word), *map(ratings.word, numbers[:3]), *(ratings.optional(given >> k & 1, numbers[3 + k]) for k in (0, 1))]
 
 
 def charts_of(a):

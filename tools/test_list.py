@@ -223,10 +223,10 @@ class Command(unittest.TestCase):
         self.assertRegex(told[0], "The rater is built")
         self.assertEqual(self.read("calls"), "check rater\n")
         with open(self.at("read"), "rb") as file:
-            self.assertEqual(file.read(), struct.pack("<II5d", 1 << 31 | 1 << 4 | 1 << 3, 0, 9.5, 8.0, 1.14, 0.0, 2.0) + b"any bytes")
+            self.assertEqual(file.read(), struct.pack("<II5d", 1 << 4 | 1 << 3, 2, 9.5, 8.0, 1.14, 0.0, 2.0) + b"any bytes")
         self.listed("--stars", "none", *ASKED[2:], "--attraction", "-0.5", "a.chart")
         with open(self.at("read"), "rb") as file:
-            self.assertEqual(file.read()[:48], struct.pack("<II5d", 1 << 30, 0, 9.5, 8.0, 1.14, -0.5, 0.0))
+            self.assertEqual(file.read()[:48], struct.pack("<II5d", 0, 1, 9.5, 8.0, 1.14, -0.5, 0.0))
 
     def test_half_a_rating(self):
         self.write("lines", "ratings 4000000000000000\n")

@@ -1,6 +1,6 @@
 // The rater: reads from standard input what comes with a call for ratings, then a chart, and writes the ratings and the stars, or why there are none.
-// What comes with the call is 48 bytes, little-endian: the word of mods (u32), four bytes that are not read, then approach rate, overall difficulty, base
-// multiplier, attraction strength and start scale (f64). Bits 30 and 31 of the word say whether the last two are given.
+// What comes with the call is 48 bytes, little-endian: the word of mods, a word whose bits 0 and 1 say whether attraction strength and start scale are given (u32),
+// then approach rate, overall difficulty, base multiplier, attraction strength and start scale (f64).
 ghost use Prim.Native.Nat.{_≤_};
 ghost use lib.ListN.{length};
 use chart_opening::Refusal;
@@ -32,12 +32,12 @@ const SCRATCH: usize = 8192;
 fn asked_of(s: &[u8]) -> Asked
     requires { ⌜ 48 ≤ length (now s) ⌝ }
 {
-    let word = num_floats::u32_at(s, 0);
+    let given = num_floats::u32_at(s, 4);
     let mods = Mods::from_word(
-        word,
-        word / 1073741824 % 2 == 1,
+        num_floats::u32_at(s, 0),
+        given % 2 == 1,
         num_floats::f64_at(s, 32),
-        word / 2147483648 % 2 == 1,
+        given / 2 % 2 == 1,
         num_floats::f64_at(s, 40),
     );
     Asked {
