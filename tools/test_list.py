@@ -22,8 +22,16 @@ TOOLS = os.path.dirname(os.path.abspath(__file__))
 sys.dont_write_bytecode = True
 sys.path.insert(0, TOOLS)
 CRATES = "# the bottom\nfloats:\nother: floats\n# above\ntext: floats io libc   # io and libc are the kit's\nlister: text\nrater: text\n"
-LINES = "objects 3\n1 {0} {0} {1} {1} {0}\n2 {2} {3} {4} {5} {6}\ntotals {0} {0} {1} {0}\n".format(
-    "0" * 16, "3FF0000000000000", "7FF8000000000000", "7FF0000000000000", "FFF0000000000000", "8000000000000000", "0000000000000001")
+LINES = "objects 3\n1 {0} {0} {1} {1} {0}\n2 {2} {3} {4} {5} {6}\ntotals {0} {0} {1} {0}\ncounts {1} {1} {7} {0} {3} {0} {7}\n".format(
+    "0" * 16, "3FF0000000000000", "7FF8000000000000", "7FF0000000000000", "FFF0000000000000", "8000000000000000", "0000000000000001", "3FF199999999999A")
+COUNTS = ["counts",
+          "weighted strains for aim                    1.0",
+          "weighted strains for aim without sliders    1.0",
+          "weighted strains for speed                  1.1",
+          "weighted sliders for aim without sliders    0.0",
+          "weighted sliders for speed                inf",
+          "difficult sliders for aim                   0.0",
+          "relevant notes                              1.1"]
 ASKED = ("--stars", "hidden,flashlight", "--ar", "9.5", "--od", "8", "--base", "1.14")
 STARS = ["aim rating         0.0", "speed rating       0.07401459479141512", "flashlight rating  0.0", "stars              0.14652041190236825"]  # of examples/two_circles.txt, by the oracle
 # Links first, and leaves the stamp last, as rt does.
@@ -71,15 +79,16 @@ class Decimals(unittest.TestCase):
             "place   aim    aim without sliders  speed   rhythm  flashlight",
             "     1    0.0    0.0                   1.0   1.0    0.0",
             "     2  nan    inf                  -inf    -0.0    5e-324",
-            "totals    0.0    0.0                   1.0   -      0.0"])
+            "totals    0.0    0.0                   1.0   -      0.0", *COUNTS])
 
     def test_no_place(self):
-        self.assertEqual(script().table("objects 0\ntotals" + " 0000000000000000" * 4 + "\n").splitlines()[1:], [
-            "place   aim  aim without sliders  speed  rhythm  flashlight", "totals  0.0  0.0                  0.0    -       0.0"])
+        text = "objects 0\ntotals" + " 0000000000000000" * 4 + "\ncounts" + " 0000000000000000" * 7 + "\n"
+        self.assertEqual(script().table(text).splitlines()[1:4], [
+            "place   aim  aim without sliders  speed  rhythm  flashlight", "totals  0.0  0.0                  0.0    -       0.0", "counts"])
 
     def test_what_is_missing_is_no_zero(self):
         lines = LINES.splitlines(True)
-        for text in ("", "objects 3\n", "".join(lines[:-1]), "".join(lines[:2] + lines[3:]), LINES.replace(" 7FF8000000000000", ""), LINES[:-17] + "\n",
+        for text in ("", "objects 3\n", "".join(lines[:-1]), "".join(lines[:-2] + lines[-1:]), "".join(lines[:2] + lines[3:]), LINES.replace(" 7FF8000000000000", ""), LINES[:-17] + "\n",
                      LINES.replace("3FF", "3F")):
             with self.assertRaises(ValueError):
                 script().table(text)
@@ -246,7 +255,8 @@ class Lister(unittest.TestCase):
         out, told = self.listed(name)
         self.assertEqual(out.splitlines(), [
             "objects 2", "1 0000000000000000 0000000000000000 3FF0000000000000 3FF0000000000000 0000000000000000",
-            "totals 0000000000000000 0000000000000000 3FF1A3D70A3D70A4 0000000000000000"])
+            "totals 0000000000000000 0000000000000000 3FF1A3D70A3D70A4 0000000000000000",
+            "counts 3FF0000000000000 3FF0000000000000 3FF199999999999A 0000000000000000 0000000000000000 0000000000000000 3FEFEBBE888D058D"])
         self.assertEqual(told, "")
         self.assertEqual(self.listed(name, words=("--decimal",)), (script().table(out), ""))
 
