@@ -33,6 +33,8 @@ SAVED = 1 << 2 | 1 << 3 | 1 << 4, 3, [9.5, 8.0, 1.14, 0.25, 2.0]  # touch device
 def questions(r, count):
     """The word of mods, which of the last two numbers are given, and five numbers."""
     yield from ratings.combinations(r, count)
+    for word in (1 << 3, 1 << 0 | 1 << 1 | 1 << 4):  # hidden; autopilot, relax and flashlight together
+        yield word, 0, [10.33, 8.0, 1.14, 0.0, 0.0]
     for k in range(5):
         for given in (0, 3):
             numbers = [9.5, 8.0, 1.14, 0.25, 2.0]
