@@ -1,5 +1,5 @@
 //! Microseconds of each call on charts of several sizes, lower quartile of the runs. Insertions and removals stand beside what it takes to move as many bytes of
-//! the chart and rows of the tables by the standard library's functions. Where a folder with the oracle's programs is named as the argument, their
+//! the chart and rows of the tables by the standard library's functions; the totals while playing, counts and ratings beside the totals. Where a folder with the oracle's programs is named as the argument, their
 //! times on the same charts stand beside: `source` works out the records and the four skills' totals, as opening and totals do. The oracle's are
 //! the best of its runs by the wall's clock: on a busy machine they are too high for the large charts.
 mod charts;
@@ -8,7 +8,7 @@ mod clock;
 mod station;
 use charts::{chart, put};
 use clock::{quartile, quartiles, timed};
-use station::{OBJECT, RECORD, SCRATCH, TOTALS, VALUES};
+use station::{mods, COUNTS, OBJECT, RATINGS, RECORD, SCRATCH, TOTALS, VALUES};
 use std::process::Command;
 
 const SIZES: [usize; 4] = [100, 1000, 4000, 16384];
@@ -34,6 +34,23 @@ impl Station {
     fn totals(&mut self) {
         let scratch = self.scratch.each_mut().map(|s| &mut s[..]);
         station::totals(&self.chart, &self.values, scratch, &mut [0.0; TOTALS]).unwrap();
+    }
+
+    fn counts(&mut self) {
+        let scratch = self.scratch.each_mut().map(|s| &mut s[..]);
+        station::counts(&self.chart, &self.values, scratch, &mut [0.0; COUNTS]).unwrap();
+    }
+
+    fn ratings(&mut self) {
+        let scratch = self.scratch.each_mut().map(|s| &mut s[..]);
+        let numbers = [9.5, 8.0, 1.14, 0.5, 2.0];
+        let (word, given) = (mods::HIDDEN | mods::FLASHLIGHT, mods::ATTRACTION | mods::START_SCALE);
+        station::ratings(&self.chart, &self.values, word, given, &numbers, scratch, &mut [0.0; RATINGS]).unwrap();
+    }
+
+    fn playing(&mut self, list: &mut [f64]) {
+        let scratch = self.scratch.each_mut().map(|s| &mut s[..]);
+        station::totals_while_playing(&self.chart, &self.values, list, scratch).unwrap();
     }
 
     /// Moves the object to and fro.
@@ -92,11 +109,21 @@ fn edits_of(s: &mut Station, open: f64, replace: [f64; 3]) -> String {
     format!("{n:>6} {} {} {} {over:>10.2} {:>9.1}", three(edits.map(|e| e[0])), three(edits.map(|e| e[1])), three(moves), open / slowest)
 }
 
+/// The line of what is worked out over all values, beside the totals.
+fn figures_of(s: &mut Station, totals: f64) -> String {
+    let mut list = vec![0.0; TOTALS * (s.n + 1)];
+    let (counts, ratings, playing) = (quartile(|_| s.counts()), quartile(|_| s.ratings()), quartile(|_| s.playing(&mut list)));
+    format!(
+        "{:>6} {totals:>10.1} {counts:>10.1} {:>7.2} {ratings:>10.1} {:>7.2} {playing:>12.1} {:>7.2} {:>8.3}",
+        s.n, counts / totals, ratings / totals, playing / totals, playing / s.n as f64
+    )
+}
+
 fn main() {
     let folder = std::env::args().nth(1);
     println!("microseconds of processor time, lower quartile of the runs");
     println!("{:>6} {:>10} {:>8} {:>10} {:>10} {:>10} {:>9} {:>8} {:>8}", "N", "open", "per N", "replace 0", "at N/2", "at N-1", "readings", "totals", "open/rep");
-    let (mut both, mut edits) = (vec![], vec![]);
+    let (mut both, mut edits, mut figures) = (vec![], vec![], vec![]);
     for n in SIZES {
         let mut s = Station::new(n);
         let open = quartile(|_| s.open());
@@ -108,12 +135,16 @@ fn main() {
             "{n:>6} {open:>10.1} {:>8.3} {:>10.1} {:>10.1} {:>10.1} {read:>9.3} {totals:>8.1} {:>8.1}",
             open / n as f64, replace[0], replace[1], replace[2], open / slowest
         );
+        figures.push(figures_of(&mut s, totals));
         edits.push(edits_of(&mut s, open, replace));
         both.push((s, open + totals));
     }
     println!("each at 0, N/2 and N-1; an edit over a replacement at its place and the moves: the largest");
     println!("{:>6} {:>28} {:>28} {:>28} {:>10} {:>9}", "N", "insert", "remove", "moves", "over", "open/edit");
     edits.iter().for_each(|line| println!("{line}"));
+    println!("over all values; each over the totals of the same chart");
+    println!("{:>6} {:>10} {:>10} {:>7} {:>10} {:>7} {:>12} {:>7} {:>8}", "N", "totals", "counts", "over", "ratings", "over", "playing", "over", "per N");
+    figures.iter().for_each(|line| println!("{line}"));
     let Some(folder) = folder else {
         println!("no folder with the oracle's programs was named: no comparison");
         return;

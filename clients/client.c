@@ -1,6 +1,7 @@
 /* Opens a chart, drags one of its objects a thousand times, puts one in and takes two out, and prints what a station would show. client.rs does the same.
  * Every call is guarded: it gives the same bits whatever rounding, flushing or traps a host has set. */
 #include <inttypes.h>
+#include <math.h>
 #include <stdio.h>
 #include <stdlib.h>
 #include <string.h>
@@ -62,6 +63,20 @@ static uint64_t take_out(struct station *s, size_t place) {
     return difficulty_guarded_remove(s->chart, s->length, place, s->records, s->records_length, s->values, s->values_length);
 }
 
+/* A figure's numbers, or its refusal. */
+static void print_figure(const char *what, uint64_t answer, const double *numbers, size_t count) {
+    if (answer == 0) print_numbers(what, numbers, count);
+    else print_answer(what, answer);
+}
+
+/* What each figure is lent: the chart with its values, and scratch. */
+#define OPENED(s) (s)->chart, (s)->length, (s)->values, (s)->values_length
+#define SCRATCH(s) (s)->scratch[0], DIFFICULTY_SCRATCH, (s)->scratch[1], DIFFICULTY_SCRATCH, (s)->scratch[2], DIFFICULTY_SCRATCH, (s)->scratch[3], DIFFICULTY_SCRATCH
+
+static size_t count_of(const struct station *s) {
+    return s->chart[0] | (uint32_t)s->chart[1] << 8 | (uint32_t)s->chart[2] << 16 | (uint32_t)s->chart[3] << 24;
+}
+
 static void show(struct station *s, size_t place) {
     double out[DIFFICULTY_AIM];
     if (difficulty_guarded_read_values(s->chart, s->length, s->values, s->values_length, place, out, DIFFICULTY_VALUES) == 0)
@@ -72,11 +87,26 @@ static void show(struct station *s, size_t place) {
         print_numbers("parts", out, DIFFICULTY_AIM);
     if (difficulty_guarded_read_rhythm(s->chart, s->length, s->records, s->records_length, place, out, DIFFICULTY_RHYTHM) == 0)
         print_numbers("rhythm", out, DIFFICULTY_RHYTHM);
-    uint64_t answer = difficulty_guarded_totals(s->chart, s->length, s->values, s->values_length,
-                                                s->scratch[0], DIFFICULTY_SCRATCH, s->scratch[1], DIFFICULTY_SCRATCH,
-                                                s->scratch[2], DIFFICULTY_SCRATCH, s->scratch[3], DIFFICULTY_SCRATCH, out, DIFFICULTY_TOTALS);
-    if (answer == 0) print_numbers("totals", out, DIFFICULTY_TOTALS);
-    else print_answer("totals", answer);
+    print_figure("totals", difficulty_guarded_totals(OPENED(s), SCRATCH(s), out, DIFFICULTY_TOTALS), out, DIFFICULTY_TOTALS);
+    print_figure("counts", difficulty_guarded_counts(OPENED(s), SCRATCH(s), out, DIFFICULTY_COUNTS), out, DIFFICULTY_COUNTS);
+    print_figure("prefix", difficulty_guarded_totals_to(OPENED(s), place, SCRATCH(s), out, DIFFICULTY_TOTALS), out, DIFFICULTY_TOTALS);
+    const double numbers[DIFFICULTY_NUMBERS] = {9.5, 8.0, 1.14, INFINITY, 2.0}; /* attraction strength is not given, and not read */
+    uint32_t mods = DIFFICULTY_HIDDEN | DIFFICULTY_FLASHLIGHT;
+    uint64_t answer = difficulty_guarded_ratings(OPENED(s), mods, DIFFICULTY_START_SCALE, numbers, DIFFICULTY_NUMBERS, SCRATCH(s), out, DIFFICULTY_RATINGS);
+    print_figure("ratings", answer, out, DIFFICULTY_RATINGS);
+}
+
+/* The totals while playing, for all numbers of objects; then a list one entry short (7), one object too many (8) and a base multiplier that is not finite (10). */
+static void show_playing(struct station *s) {
+    double *list = claim(DIFFICULTY_TOTALS * (s->objects + 2), sizeof(double)), out[DIFFICULTY_TOTALS];
+    size_t n = count_of(s), length = DIFFICULTY_TOTALS * (n + 1);
+    print_figure("prefixes", difficulty_guarded_totals_while_playing(OPENED(s), list, length, SCRATCH(s)), list, length);
+    print_figure("prefixes", difficulty_guarded_totals_while_playing(OPENED(s), list, length - 1, SCRATCH(s)), list, length);
+    print_figure("prefix", difficulty_guarded_totals_to(OPENED(s), n + 1, SCRATCH(s), out, DIFFICULTY_TOTALS), out, DIFFICULTY_TOTALS);
+    const double numbers[DIFFICULTY_NUMBERS] = {9.5, 8.0, INFINITY, 0.0, 0.0};
+    uint64_t answer = difficulty_guarded_ratings(OPENED(s), 0, 0, numbers, DIFFICULTY_NUMBERS, SCRATCH(s), out, DIFFICULTY_RATINGS);
+    print_figure("ratings", answer, out, DIFFICULTY_RATINGS);
+    free(list);
 }
 
 /* Moves the object to and fro. Every tenth step drops it outside the field (3), every seventeenth past the last place (8), every
@@ -115,8 +145,7 @@ int main(int count, char **arguments) {
     if (count != 2) { fputs("usage: client CHART\n", stderr); return 2; }
     struct station s = {0};
     s.chart = read_file(arguments[1], &s.length, &s.object_size);
-    uint32_t n = 0;
-    if (s.length >= 4) n = s.chart[0] | (uint32_t)s.chart[1] << 8 | (uint32_t)s.chart[2] << 16 | (uint32_t)s.chart[3] << 24;
+    size_t n = s.length >= 4 ? count_of(&s) : 0;
     s.objects = n <= DIFFICULTY_MOST ? n : 0;
     s.records_length = DIFFICULTY_RECORD * (s.objects + 2);
     s.values_length = DIFFICULTY_VALUES * (s.objects + 2);
@@ -128,9 +157,11 @@ int main(int count, char **arguments) {
     print_answer("opening", answer);
     if (answer == 0 && s.objects > 1) {
         show(&s, s.objects / 2);
+        show_playing(&s);
         drag(&s, s.objects / 2);
         show(&s, s.objects / 2);
         put_in_and_take_out(&s, s.objects / 2);
+        show_playing(&s);
     }
     for (int i = 0; i < 4; i++) free(s.scratch[i]);
     free(s.values);

@@ -1,7 +1,7 @@
 //! Opens a chart, drags one of its objects a thousand times, puts one in and takes two out, and prints what a station would show. client.c does the same.
 //! Every call is guarded: it gives the same bits whatever rounding, flushing or traps a host has set.
 mod station;
-use station::{guarded, object_size, Answer, AIM, MOST, RECORD, RHYTHM, SCRATCH, TOTALS, VALUES};
+use station::{guarded, mods, object_size, Answer, AIM, COUNTS, MOST, RATINGS, RECORD, RHYTHM, SCRATCH, TOTALS, VALUES};
 
 struct Station {
     chart: Vec<u8>,
@@ -26,10 +26,26 @@ fn print_numbers(what: &str, numbers: &[f64]) {
     println!();
 }
 
+/// A figure's numbers, or its refusal.
+fn print_figure(what: &str, answer: Answer, numbers: &[f64]) {
+    match answer {
+        Ok(()) => print_numbers(what, numbers),
+        refused => print_answer(what, refused),
+    }
+}
+
+fn lent(scratch: &mut [Vec<f64>; 4]) -> [&mut [f64]; 4] {
+    scratch.each_mut().map(|s| &mut s[..])
+}
+
+fn count(chart: &[u8]) -> usize {
+    chart.get(..4).map_or(0, |b| u32::from_le_bytes(b.try_into().unwrap()) as usize)
+}
+
 impl Station {
     fn show(&mut self, place: usize) {
         let (mut values, mut record, mut totals) = ([0.0; VALUES], [0.0; RECORD], [0.0; TOTALS]);
-        let (mut parts, mut rhythm) = ([0.0; AIM], [0.0; RHYTHM]);
+        let (mut parts, mut rhythm, mut counts, mut ratings) = ([0.0; AIM], [0.0; RHYTHM], [0.0; COUNTS], [0.0; RATINGS]);
         if guarded(|| station::read_values(&self.chart, &self.values, place, &mut values)).is_ok() {
             print_numbers("values", &values);
         }
@@ -42,11 +58,25 @@ impl Station {
         if guarded(|| station::read_rhythm(&self.chart, &self.records, place, &mut rhythm)).is_ok() {
             print_numbers("rhythm", &rhythm);
         }
-        let scratch = self.scratch.each_mut().map(|s| &mut s[..]);
-        match guarded(|| station::totals(&self.chart, &self.values, scratch, &mut totals)) {
-            Ok(()) => print_numbers("totals", &totals),
-            refused => print_answer("totals", refused),
+        print_figure("totals", guarded(|| station::totals(&self.chart, &self.values, lent(&mut self.scratch), &mut totals)), &totals);
+        print_figure("counts", guarded(|| station::counts(&self.chart, &self.values, lent(&mut self.scratch), &mut counts)), &counts);
+        print_figure("prefix", guarded(|| station::totals_to(&self.chart, &self.values, place, lent(&mut self.scratch), &mut totals)), &totals);
+        let numbers = [9.5, 8.0, 1.14, f64::INFINITY, 2.0]; // attraction strength is not given, and not read
+        let (word, given) = (mods::HIDDEN | mods::FLASHLIGHT, mods::START_SCALE);
+        print_figure("ratings", guarded(|| station::ratings(&self.chart, &self.values, word, given, &numbers, lent(&mut self.scratch), &mut ratings)), &ratings);
+    }
+
+    /// The totals while playing, for all numbers of objects; then a list one entry short (7), one object too many (8) and a base multiplier that is not finite (10).
+    fn show_playing(&mut self) {
+        let n = count(&self.chart);
+        let (mut list, mut out) = (vec![0.0; TOTALS * (n + 1)], [0.0; TOTALS]);
+        for length in [list.len(), list.len() - 1] {
+            let answer = guarded(|| station::totals_while_playing(&self.chart, &self.values, &mut list[..length], lent(&mut self.scratch)));
+            print_figure("prefixes", answer, &list);
         }
+        print_figure("prefix", guarded(|| station::totals_to(&self.chart, &self.values, n + 1, lent(&mut self.scratch), &mut out)), &out);
+        let numbers = [9.5, 8.0, f64::INFINITY, 0.0, 0.0];
+        print_figure("ratings", guarded(|| station::ratings(&self.chart, &self.values, 0, 0, &numbers, lent(&mut self.scratch), &mut out)), &out);
     }
 
     fn object(&self, place: usize) -> Vec<u8> {
@@ -102,7 +132,7 @@ fn main() {
     let name = std::env::args().nth(1).expect("usage: client CHART");
     let mut chart = std::fs::read(name).expect("the chart can be read");
     chart.resize(chart.len() + object_size(&chart), 0); // a buffer with room for one object more
-    let n = chart.get(..4).map_or(0, |b| u32::from_le_bytes(b.try_into().unwrap()) as usize);
+    let n = count(&chart);
     let objects = if n <= MOST { n } else { 0 };
     let mut s = Station {
         chart,
@@ -116,8 +146,10 @@ fn main() {
     print_answer("opening", answer);
     if answer.is_ok() && objects > 1 {
         s.show(objects / 2);
+        s.show_playing();
         s.drag(objects / 2);
         s.show(objects / 2);
         s.put_in_and_take_out(objects / 2);
+        s.show_playing();
     }
 }

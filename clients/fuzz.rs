@@ -2,7 +2,7 @@
 //!     fuzz SEED CALLS [FOLDER]
 //! With a folder, the charts, the calls and the answers are written there, for tools/fuzz_compare.py.
 mod station;
-use station::{object_size, Answer, Refusal, AIM, OBJECT, RECORD, RHYTHM, SCRATCH, STATED_OBJECT, TOTALS, VALUES};
+use station::{mods, object_size, Answer, Refusal, AIM, COUNTS, NUMBERS, OBJECT, RATINGS, RECORD, RHYTHM, SCRATCH, STATED_OBJECT, TOTALS, VALUES};
 use std::cmp::{max, min};
 use std::fmt::Write;
 
@@ -22,6 +22,15 @@ const READINGS: [(&str, Read, usize, usize); 4] = [
 const RECORD_READ: usize = 0;
 const VALUES_READ: usize = 1;
 const AIM_READ: usize = 2;
+
+/// What is worked out over all values, with what comes with the call.
+enum Figure {
+    Totals,
+    Counts,
+    Reached(usize),
+    Playing,
+    Ratings(u32, u32, Vec<f64>),
+}
 
 struct Random(u64);
 
@@ -231,8 +240,8 @@ fn moved_rows(w: usize, old: &[f64], new: &[f64], place: usize, n: usize, by: is
 
 #[derive(Default)]
 struct Counts {
-    calls: [u64; 9],
-    refused: [u64; 10],
+    calls: [u64; 13],
+    refused: [u64; 11],
     compared: u64,
 }
 
@@ -469,10 +478,55 @@ impl Round {
         answer
     }
 
-    fn totals(&mut self, r: &mut Random) -> Answer {
+    /// A figure with what comes with it; some of its numbers are not finite, or there are too few.
+    fn asked(&self, r: &mut Random, which: usize) -> Figure {
+        match which {
+            0 => Figure::Totals,
+            1 => Figure::Counts,
+            2 => Figure::Reached(self.place(r)),
+            3 => Figure::Playing,
+            _ => {
+                let usual = [9.5, 8.0, 1.14, 0.5, 2.0, -3.0, 7.5, 10.33, 11.2, 0.0];
+                let numbers = (0..NUMBERS).map(|_| if r.one_in(12) { r.wild() } else { usual[r.below(usual.len())] }).collect();
+                Figure::Ratings(r.word() as u32, r.word() as u32, if r.one_in(12) { vec![1.0; r.below(NUMBERS)] } else { numbers })
+            }
+        }
+    }
+
+    /// Numbers that the figure writes, and those to lend for them: too few, just enough or more.
+    fn room(&self, r: &mut Random, figure: &Figure) -> (usize, usize) {
+        let w = match figure {
+            Figure::Counts => COUNTS,
+            Figure::Playing => TOTALS * (count(&self.chart).min(MOST) + 1),
+            Figure::Ratings(..) => RATINGS,
+            _ => TOTALS,
+        };
+        (w, if r.one_in(8) { r.below(w) } else { w + r.below(7) })
+    }
+
+    /// The call's words for the oracle, which is lent no slice for an answer or numbers: one that is too short counts as scratch.
+    fn question(&self, figure: &Figure, (w, room): (usize, usize), entries: usize, lengths: [usize; 4]) -> String {
+        let (words, short) = match figure {
+            Figure::Totals => ("totals".into(), room < w),
+            Figure::Counts => ("counts".into(), room < w),
+            Figure::Reached(m) => (format!("prefix {m}"), room < w),
+            Figure::Playing => (format!("prefixes {}", room / TOTALS), false),
+            Figure::Ratings(word, given, numbers) => {
+                let bits: Vec<String> = (0..NUMBERS).map(|k| numbers.get(k).map_or("0".repeat(16), |x| format!("{:016x}", x.to_bits()))).collect();
+                let optional = |bit, k: usize| if given & bit != 0 { &bits[k][..] } else { "-" };
+                let two = [optional(mods::ATTRACTION, 3), optional(mods::START_SCALE, 4)];
+                (format!("ratings {word} {} {} {} {} {}", bits[0], bits[1], bits[2], two[0], two[1]), room < w || numbers.len() < NUMBERS)
+            }
+        };
+        let told = if short { [0; 4] } else { lengths };
+        format!("{words} {entries} / {} {} {} {}", told[0], told[1], told[2], told[3])
+    }
+
+    fn figure(&mut self, r: &mut Random, which: usize) -> Answer {
+        let figure = self.asked(r, which);
         let vl = self.length(r, self.values.len(), VALUES);
         let lengths: [usize; 4] = std::array::from_fn(|_| if r.one_in(12) { r.below(SCRATCH) } else { SCRATCH });
-        let room = if r.one_in(8) { r.below(TOTALS) } else { TOTALS + r.below(3) };
+        let (w, room) = self.room(r, &figure);
         for s in &mut self.scratch {
             let k = r.below(SCRATCH);
             s[k] = r.wild();
@@ -481,18 +535,29 @@ impl Round {
         let (before, chart, values, scratch) = (out.clone(), self.chart.clone(), self.values.clone(), self.scratch.clone());
         let mut k = 0;
         let slices = self.scratch.each_mut().map(|s| { k += 1; &mut s[..lengths[k - 1]] });
-        let answer = station::totals(&self.chart, &self.values[..vl], slices, &mut out);
-        assert!(chart == self.chart && same(&values, &self.values), "totals change neither chart nor table");
+        let table = &self.values[..vl];
+        let answer = match &figure {
+            Figure::Totals => station::totals(&self.chart, table, slices, &mut out),
+            Figure::Counts => station::counts(&self.chart, table, slices, &mut out),
+            Figure::Reached(m) => station::totals_to(&self.chart, table, *m, slices, &mut out),
+            Figure::Playing => station::totals_while_playing(&self.chart, table, &mut out, slices),
+            Figure::Ratings(word, given, numbers) => station::ratings(&self.chart, table, *word, *given, numbers, slices, &mut out),
+        };
+        assert!(chart == self.chart && same(&values, &self.values), "a figure changes neither chart nor table");
         if answer.is_ok() {
-            assert!(self.scratch.iter().flatten().all(|x| x.to_bits() == 0), "all scratch is 0");
-            assert!(same(&before[TOTALS..], &out[TOTALS..]));
+            assert!(self.scratch.iter().zip(lengths).all(|(s, l)| s[..l].iter().all(|x| x.to_bits() == 0)), "all scratch is 0");
+            assert!(same(&before[w..], &out[w..]), "nothing else is written, nor list entries past N");
         } else {
             assert!(same(&before, &out) && self.scratch.iter().zip(&scratch).all(|(a, b)| same(a, b)), "a refusal writes nothing");
         }
-        let told = if room < TOTALS { [0; 4] } else { lengths };
-        writeln!(self.script, "totals {} / {} {} {} {}", vl / VALUES, told[0], told[1], told[2], told[3]).unwrap();
-        let numbers = if answer.is_ok() { words(&out[..TOTALS]) } else { String::new() };
-        self.tell(answer, format!("totals{numbers}"));
+        let question = self.question(&figure, (w, room), vl / VALUES, lengths);
+        let numbers = if answer.is_ok() { words(&out[..w]) } else { String::new() };
+        let told = match figure {
+            Figure::Reached(m) => format!("prefix {m}{numbers}"),
+            _ => format!("{}{numbers}", question.split(' ').next().unwrap()),
+        };
+        writeln!(self.script, "{question}").unwrap();
+        self.tell(answer, told);
         answer
     }
 
@@ -508,22 +573,23 @@ impl Round {
         if r.one_in(40) {
             self.poke(r);
         }
-        let which = [0, 1, 1, 2, 2, 3, 3, 4, 5, 6, 6, 7, 7, 8][r.below(14)];
+        let which = [0, 1, 1, 1, 1, 2, 2, 2, 2, 3, 3, 3, 3, 4, 4, 5, 5, 6, 6, 6, 7, 7, 7, 8, 9, 10, 11, 12][r.below(28)];
         let answer = match which {
             0 => self.open(r),
             1 => self.replace(r),
             2 => self.insert(r),
             3 => self.remove(r),
             4..=7 => self.read(r, which - 4),
-            _ => self.totals(r),
+            _ => self.figure(r, which - 8),
         };
         counts.calls[which] += 1;
         counts.compared += (answer.is_ok() && self.fresh) as u64;
         let number = answer.map_or_else(|refusal| {
             let placed = (3..=5).contains(&refusal.number);
-            assert!((1..=9).contains(&refusal.number) && (placed || refusal.place == 0), "{refusal:?}");
+            assert!((1..=10).contains(&refusal.number) && (placed || refusal.place == 0), "{refusal:?}");
             assert!(!placed || (refusal.place as usize) < count(&self.chart) + (which == 2) as usize, "{refusal:?}");
             assert!(refusal.number != 9 || which == 2, "{refusal:?}");
+            assert!(refusal.number != 10 || which == 12, "{refusal:?}");
             refusal.number
         }, |()| 0);
         counts.refused[number as usize] += 1;
@@ -585,8 +651,9 @@ fn main() {
         std::fs::write(format!("{folder}/scripts"), script).unwrap();
         std::fs::write(format!("{folder}/answers"), answers).unwrap();
     }
-    let [open, replace, insert, remove, record, value, parts, rhythm, totals] = counts.calls;
-    println!("seed {seed}: {rounds} charts; open {open}, replace {replace}, insert {insert}, remove {remove}, totals {totals}");
+    let [open, replace, insert, remove, record, value, parts, rhythm, totals, counted, reached, playing, ratings] = counts.calls;
+    println!("seed {seed}: {rounds} charts; open {open}, replace {replace}, insert {insert}, remove {remove}");
     println!("read record {record}, read values {value}, read aim parts {parts}, read rhythm {rhythm}");
+    println!("totals {totals}, counts {counted}, totals to {reached}, totals while playing {playing}, ratings {ratings}");
     println!("carried out {}, refused by number {:?}; {} of those carried out were on the chart's own tables", counts.refused[0], &counts.refused[1..], counts.compared);
 }

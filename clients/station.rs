@@ -10,7 +10,23 @@ pub const VALUES: usize = 5;
 pub const AIM: usize = 18;
 pub const RHYTHM: usize = 2;
 pub const TOTALS: usize = 4;
+pub const COUNTS: usize = 7;
+pub const RATINGS: usize = 4;
+pub const NUMBERS: usize = 5;
 pub const SCRATCH: usize = 8192;
+
+/// Bits of the word of mods that comes with a call for ratings; the last two are of the word that says which numbers are given.
+pub mod mods {
+    pub const AUTOPILOT: u32 = 1;
+    pub const RELAX: u32 = 1 << 1;
+    pub const TOUCH_DEVICE: u32 = 1 << 2;
+    pub const HIDDEN: u32 = 1 << 3;
+    pub const FLASHLIGHT: u32 = 1 << 4;
+    pub const TRACEABLE: u32 = 1 << 5;
+    pub const FADE_ONLY: u32 = 1 << 6;
+    pub const ATTRACTION: u32 = 1;
+    pub const START_SCALE: u32 = 1 << 1;
+}
 
 mod library {
     extern "C" {
@@ -24,6 +40,22 @@ mod library {
         pub fn difficulty_read_rhythm(c: *const u8, cl: usize, r: *const f64, rl: usize, place: usize, out: *mut f64, ol: usize) -> u64;
         pub fn difficulty_totals(
             c: *const u8, cl: usize, v: *const f64, vl: usize, aim: *mut f64, al: usize, still: *mut f64, nl: usize,
+            speed: *mut f64, sl: usize, light: *mut f64, ll: usize, out: *mut f64, ol: usize,
+        ) -> u64;
+        pub fn difficulty_counts(
+            c: *const u8, cl: usize, v: *const f64, vl: usize, aim: *mut f64, al: usize, still: *mut f64, nl: usize,
+            speed: *mut f64, sl: usize, light: *mut f64, ll: usize, out: *mut f64, ol: usize,
+        ) -> u64;
+        pub fn difficulty_totals_to(
+            c: *const u8, cl: usize, v: *const f64, vl: usize, m: usize, aim: *mut f64, al: usize, still: *mut f64, nl: usize,
+            speed: *mut f64, sl: usize, light: *mut f64, ll: usize, out: *mut f64, ol: usize,
+        ) -> u64;
+        pub fn difficulty_totals_while_playing(
+            c: *const u8, cl: usize, v: *const f64, vl: usize, list: *mut f64, tl: usize, aim: *mut f64, al: usize, still: *mut f64, nl: usize,
+            speed: *mut f64, sl: usize, light: *mut f64, ll: usize,
+        ) -> u64;
+        pub fn difficulty_ratings(
+            c: *const u8, cl: usize, v: *const f64, vl: usize, mods: u32, given: u32, numbers: *const f64, bl: usize, aim: *mut f64, al: usize, still: *mut f64, nl: usize,
             speed: *mut f64, sl: usize, light: *mut f64, ll: usize, out: *mut f64, ol: usize,
         ) -> u64;
     }
@@ -78,7 +110,7 @@ pub fn answer(code: u64) -> Answer {
     if code == 0 { Ok(()) } else { Err(Refusal { number: (code >> 32) as u32, place: code as u32 }) }
 }
 
-// SAFETY of all nine: a slice's pointer and length are valid for the call, and a `&mut` overlaps nothing.
+// SAFETY of all thirteen: a slice's pointer and length are valid for the call, and a `&mut` overlaps nothing.
 
 pub fn open(chart: &[u8], records: &mut [f64], values: &mut [f64]) -> Answer {
     answer(unsafe {
@@ -139,6 +171,46 @@ pub fn totals(chart: &[u8], values: &[f64], scratch: [&mut [f64]; 4], out: &mut 
     answer(unsafe {
         library::difficulty_totals(
             chart.as_ptr(), chart.len(), values.as_ptr(), values.len(), aim.as_mut_ptr(), aim.len(), still.as_mut_ptr(), still.len(),
+            speed.as_mut_ptr(), speed.len(), light.as_mut_ptr(), light.len(), out.as_mut_ptr(), out.len(),
+        )
+    })
+}
+
+pub fn counts(chart: &[u8], values: &[f64], scratch: [&mut [f64]; 4], out: &mut [f64]) -> Answer {
+    let [aim, still, speed, light] = scratch;
+    answer(unsafe {
+        library::difficulty_counts(
+            chart.as_ptr(), chart.len(), values.as_ptr(), values.len(), aim.as_mut_ptr(), aim.len(), still.as_mut_ptr(), still.len(),
+            speed.as_mut_ptr(), speed.len(), light.as_mut_ptr(), light.len(), out.as_mut_ptr(), out.len(),
+        )
+    })
+}
+
+pub fn totals_to(chart: &[u8], values: &[f64], m: usize, scratch: [&mut [f64]; 4], out: &mut [f64]) -> Answer {
+    let [aim, still, speed, light] = scratch;
+    answer(unsafe {
+        library::difficulty_totals_to(
+            chart.as_ptr(), chart.len(), values.as_ptr(), values.len(), m, aim.as_mut_ptr(), aim.len(), still.as_mut_ptr(), still.len(),
+            speed.as_mut_ptr(), speed.len(), light.as_mut_ptr(), light.len(), out.as_mut_ptr(), out.len(),
+        )
+    })
+}
+
+pub fn totals_while_playing(chart: &[u8], values: &[f64], list: &mut [f64], scratch: [&mut [f64]; 4]) -> Answer {
+    let [aim, still, speed, light] = scratch;
+    answer(unsafe {
+        library::difficulty_totals_while_playing(
+            chart.as_ptr(), chart.len(), values.as_ptr(), values.len(), list.as_mut_ptr(), list.len(), aim.as_mut_ptr(), aim.len(), still.as_mut_ptr(), still.len(),
+            speed.as_mut_ptr(), speed.len(), light.as_mut_ptr(), light.len(),
+        )
+    })
+}
+
+pub fn ratings(chart: &[u8], values: &[f64], mods: u32, given: u32, numbers: &[f64], scratch: [&mut [f64]; 4], out: &mut [f64]) -> Answer {
+    let [aim, still, speed, light] = scratch;
+    answer(unsafe {
+        library::difficulty_ratings(
+            chart.as_ptr(), chart.len(), values.as_ptr(), values.len(), mods, given, numbers.as_ptr(), numbers.len(), aim.as_mut_ptr(), aim.len(), still.as_mut_ptr(), still.len(),
             speed.as_mut_ptr(), speed.len(), light.as_mut_ptr(), light.len(), out.as_mut_ptr(), out.len(),
         )
     })

@@ -1,22 +1,25 @@
-/* Chart difficulty for an editing station: nine calls on a chart and its two tables.
+/* Chart difficulty for an editing station: thirteen calls on a chart and its two tables.
  *
  * Lent by the caller, kept by the caller: no call allocates, keeps a pointer after it has returned, prints, or stops the program.
  *   chart    a buffer whose first bytes are the chart (docs/FORMAT.md), as many as the chart's own length field says; N is its count of objects.
  *            chart_length is the length of the buffer, which may be longer: objects are put in where it has room. Bytes behind the chart are not read
  *   records  the table of records, DIFFICULTY_RECORD numbers an entry: at least 16 * N numbers
  *   values   the table of values, DIFFICULTY_VALUES numbers an entry: at least 5 * N numbers
- *   scratch  four slices of at least DIFFICULTY_SCRATCH numbers, for the totals
+ *   scratch  four slices of at least DIFFICULTY_SCRATCH numbers, for the totals and what is worked out from them
+ *   list     DIFFICULTY_TOTALS numbers an entry: at least 4 * (N + 1) numbers, for the totals while playing
+ *   numbers  the DIFFICULTY_NUMBERS numbers that come with a call for ratings
  *   out      room for the numbers that a call answers
  * Entry j of a table belongs to place j, from 1 to N - 1. Entry 0 and entries from N on, as N is after the call, are never written; nor are bytes of the
  * buffer behind the length that the chart has after the call.
  *
  * Every call answers 0 where it is carried out. Else it answers the refusal's number times 2^32 plus its place, and changes nothing:
- * chart, tables, scratch and out stay as they were. The first of these that is met is answered:
+ * chart, tables, scratch, list and out stay as they were. The first of these that is met is answered:
  *   1 header wrong, or a length field above the buffer's length   6 the chart is too long in time
- *   2 a setting outside its range                                 7 a table, scratch or out is too short
+ *   2 a setting outside its range                                 7 a table, scratch, list, numbers or out is too short
  *   3 an object's own fields wrong                                8 no such place
  *   4 a slider's nested entries or points wrong                   9 no room for another object: the buffer has fewer bytes behind the chart than
  *   5 an object that starts before the one before it                an object has, or N is 16,384
+ *                                                                10 a number that comes with the call is not finite
  * 3, 4 and 5 have the lowest offending place, the others place 0.
  *
  * What is proved begins behind this header. Trusted of the caller, as of any caller in C:
@@ -49,7 +52,10 @@ enum {
     DIFFICULTY_VALUES = 5,          /* values of a place */
     DIFFICULTY_AIM = 18,            /* numbers of aim with its parts */
     DIFFICULTY_RHYTHM = 2,          /* numbers of a rhythm value with its comparisons */
-    DIFFICULTY_TOTALS = 4,          /* totals of a chart */
+    DIFFICULTY_TOTALS = 4,          /* totals of a chart, and numbers of an entry of the list of totals while playing */
+    DIFFICULTY_COUNTS = 7,          /* counts of a chart */
+    DIFFICULTY_RATINGS = 4,         /* ratings of a chart, the stars among them */
+    DIFFICULTY_NUMBERS = 5,         /* numbers that come with a call for ratings */
     DIFFICULTY_SCRATCH = 8192       /* numbers of scratch for each total */
 };
 
@@ -61,7 +67,24 @@ enum {
     DIFFICULTY_WIDE = 3        /* its wide side */
 };
 
-/* The number (1 to 9) and the place of a refusal; the number of 0 is 0. */
+/* Bits of the word of mods that comes with a call for ratings. Hidden and autopilot of the chart's header are other ones: those steer the evaluators. */
+enum {
+    DIFFICULTY_AUTOPILOT = 1,
+    DIFFICULTY_RELAX = 2,
+    DIFFICULTY_TOUCH_DEVICE = 4,
+    DIFFICULTY_HIDDEN = 8,
+    DIFFICULTY_FLASHLIGHT = 16,
+    DIFFICULTY_TRACEABLE = 32,
+    DIFFICULTY_FADE_ONLY = 64
+};
+
+/* Bits of the word that says which numbers are given with it. */
+enum {
+    DIFFICULTY_ATTRACTION = 1,      /* attraction strength */
+    DIFFICULTY_START_SCALE = 2      /* start scale */
+};
+
+/* The number (1 to 10) and the place of a refusal; the number of 0 is 0. */
 static inline unsigned difficulty_number(uint64_t answer) { return (unsigned)(answer >> 32); }
 static inline uint32_t difficulty_place(uint64_t answer) { return (uint32_t)answer; }
 
@@ -153,6 +176,55 @@ uint64_t difficulty_totals(const uint8_t *chart, size_t chart_length,
                            double *speed, size_t speed_length,
                            double *flashlight, size_t flashlight_length,
                            double *out, size_t out_length);
+
+/* Writes how many objects carry the chart, worked out from all values, to the first 7 numbers of out: weighted strains for aim, aim without sliders and speed,
+ * weighted sliders for aim without sliders and speed, difficult sliders for aim, the relevant notes for speed.
+ * Conditions and scratch are those of difficulty_totals; 7 where out has fewer than 7 numbers. */
+uint64_t difficulty_counts(const uint8_t *chart, size_t chart_length,
+                           const double *values, size_t values_length,
+                           double *aim, size_t aim_length,
+                           double *aim_no_sliders, size_t aim_no_sliders_length,
+                           double *speed, size_t speed_length,
+                           double *flashlight, size_t flashlight_length,
+                           double *out, size_t out_length);
+
+/* Writes the totals reached after the first m objects (0 to N), those over places 1 to m - 1, to the first 4 numbers of out: aim, aim without sliders, speed,
+ * flashlight. Place m - 1 still sees the object behind it. For m = N they are those of difficulty_totals.
+ * Conditions and scratch are those of difficulty_totals, then 8 where m is above N. */
+uint64_t difficulty_totals_to(const uint8_t *chart, size_t chart_length,
+                              const double *values, size_t values_length,
+                              size_t m,
+                              double *aim, size_t aim_length,
+                              double *aim_no_sliders, size_t aim_no_sliders_length,
+                              double *speed, size_t speed_length,
+                              double *flashlight, size_t flashlight_length,
+                              double *out, size_t out_length);
+
+/* Writes the totals reached after every number of objects: entry m of the list, from 0 to N, gets what difficulty_totals_to answers for m. One walk fills it.
+ * Entries behind N keep what they held.
+ * Conditions and scratch are those of difficulty_totals; 7 too where the list has fewer than N + 1 entries. */
+uint64_t difficulty_totals_while_playing(const uint8_t *chart, size_t chart_length,
+                                         const double *values, size_t values_length,
+                                         double *list, size_t list_length,
+                                         double *aim, size_t aim_length,
+                                         double *aim_no_sliders, size_t aim_no_sliders_length,
+                                         double *speed, size_t speed_length,
+                                         double *flashlight, size_t flashlight_length);
+
+/* Writes the aim, speed and flashlight ratings and the stars to the first 4 numbers of out, under a word of mods (DIFFICULTY_HIDDEN and so on; other bits
+ * are not read) and with five numbers: 0 approach rate, 1 overall difficulty, 2 base multiplier, and, where their bits of `given` are set (DIFFICULTY_ATTRACTION,
+ * DIFFICULTY_START_SCALE; other bits are not read), 3 attraction strength and 4 start scale. One that is not given is not read; it has its place all the same.
+ * Approach rate and overall difficulty are used as they come, not divided by the clock rate. A rating may be NaN.
+ * Conditions and scratch are those of difficulty_totals; 7 too where numbers has fewer than 5; then 10 where a number that is given is not finite, also
+ * where no rating reads it. */
+uint64_t difficulty_ratings(const uint8_t *chart, size_t chart_length,
+                            const double *values, size_t values_length,
+                            uint32_t mods, uint32_t given, const double *numbers, size_t numbers_length,
+                            double *aim, size_t aim_length,
+                            double *aim_no_sliders, size_t aim_no_sliders_length,
+                            double *speed, size_t speed_length,
+                            double *flashlight, size_t flashlight_length,
+                            double *out, size_t out_length);
 
 #ifdef __cplusplus
 }

@@ -109,4 +109,62 @@ DIFFICULTY_GUARDED difficulty_guarded_totals(const uint8_t *chart, size_t chart_
                                                      speed, speed_length, flashlight, flashlight_length, out, out_length));
 }
 
+DIFFICULTY_GUARDED difficulty_guarded_counts(const uint8_t *chart, size_t chart_length,
+                                             const double *values, size_t values_length,
+                                             double *aim, size_t aim_length,
+                                             double *aim_no_sliders, size_t aim_no_sliders_length,
+                                             double *speed, size_t speed_length,
+                                             double *flashlight, size_t flashlight_length,
+                                             double *out, size_t out_length) {
+    fenv_t host;
+    difficulty_enter(&host);
+    return difficulty_leave(&host, difficulty_counts(chart, chart_length, values, values_length, aim, aim_length,
+                                                     aim_no_sliders, aim_no_sliders_length, speed, speed_length,
+                                                     flashlight, flashlight_length, out, out_length));
+}
+
+DIFFICULTY_GUARDED difficulty_guarded_totals_to(const uint8_t *chart, size_t chart_length,
+                                                const double *values, size_t values_length,
+                                                size_t m,
+                                                double *aim, size_t aim_length,
+                                                double *aim_no_sliders, size_t aim_no_sliders_length,
+                                                double *speed, size_t speed_length,
+                                                double *flashlight, size_t flashlight_length,
+                                                double *out, size_t out_length) {
+    fenv_t host;
+    difficulty_enter(&host);
+    return difficulty_leave(&host, difficulty_totals_to(chart, chart_length, values, values_length, m, aim, aim_length,
+                                                        aim_no_sliders, aim_no_sliders_length, speed, speed_length,
+                                                        flashlight, flashlight_length, out, out_length));
+}
+
+DIFFICULTY_GUARDED difficulty_guarded_totals_while_playing(const uint8_t *chart, size_t chart_length,
+                                                           const double *values, size_t values_length,
+                                                           double *list, size_t list_length,
+                                                           double *aim, size_t aim_length,
+                                                           double *aim_no_sliders, size_t aim_no_sliders_length,
+                                                           double *speed, size_t speed_length,
+                                                           double *flashlight, size_t flashlight_length) {
+    fenv_t host;
+    difficulty_enter(&host);
+    return difficulty_leave(&host, difficulty_totals_while_playing(chart, chart_length, values, values_length, list, list_length, aim, aim_length,
+                                                                   aim_no_sliders, aim_no_sliders_length, speed, speed_length,
+                                                                   flashlight, flashlight_length));
+}
+
+DIFFICULTY_GUARDED difficulty_guarded_ratings(const uint8_t *chart, size_t chart_length,
+                                              const double *values, size_t values_length,
+                                              uint32_t mods, uint32_t given, const double *numbers, size_t numbers_length,
+                                              double *aim, size_t aim_length,
+                                              double *aim_no_sliders, size_t aim_no_sliders_length,
+                                              double *speed, size_t speed_length,
+                                              double *flashlight, size_t flashlight_length,
+                                              double *out, size_t out_length) {
+    fenv_t host;
+    difficulty_enter(&host);
+    return difficulty_leave(&host, difficulty_ratings(chart, chart_length, values, values_length, mods, given, numbers, numbers_length, aim, aim_length,
+                                                      aim_no_sliders, aim_no_sliders_length, speed, speed_length,
+                                                      flashlight, flashlight_length, out, out_length));
+}
+
 #endif

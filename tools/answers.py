@@ -68,7 +68,7 @@ def records(oracle, data):
 
 
 def values(oracle, data):
-    """The lister's lines but for the totals."""
+    """The lister's lines before the totals."""
     for lines in oracle.asked(["list", "--no-limit"], charts_of(data)):
         yield from lines if refused(lines) else lines[:-1]
 
@@ -91,7 +91,7 @@ def playing(oracle, data):
 
 def listings(oracle, data):
     charts = charts_of(data)
-    for b, lines in zip(charts, oracle.asked(["list"], charts)):
+    for b, lines in zip(charts, oracle.asked(["list", "--counts"], charts)):
         yield from lines if len(b) <= LISTER_LIMIT else ["refused 7 0"]
 
 

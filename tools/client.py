@@ -3,10 +3,11 @@
 
     client.py ORACLE CHART > OUT     OUT is clients/NAME.out for clients/NAME.chart
 
-ORACLE is the comparison program built from the customer's Rust, asked with an order 1 in ORDERS. The calls are those of clients/client.c, in a buffer with room for
+ORACLE is the comparison program built from the customer's Rust, asked with the orders in ORDERS that the library obeys. The calls are those of clients/client.c, in a buffer with room for
 one object more: an opening, a thousand drags of the middle object, a copy of it put in, two objects taken out, and readings before, between and after.
 """
 import collections
+import math
 import struct
 import subprocess
 import sys
@@ -27,8 +28,27 @@ def drags(b, n, place):
         yield f"replace {n if step % 17 == 16 else place} {o[:40 if step % 23 == 22 else size].hex()} {n + 2} {n + 2}"
 
 
+def bits(x):
+    return struct.pack(">d", x).hex()
+
+
+def figure(words, n):
+    return f"{words} {n + 2} / " + " ".join([str(SCRATCH)] * 4)
+
+
+def rated(mods, strength, scale, *numbers):
+    return " ".join(["ratings", str(mods), *map(bits, numbers), strength, scale])
+
+
 def shown(n, place):
-    return [*(f"{word} {place} {n + 2}" for word in READINGS), f"totals {n + 2} / " + " ".join([str(SCRATCH)] * 4)]
+    """n is that of the opening, by which the tables are long enough."""
+    figures = ("totals", "counts", f"prefix {place}", rated(1 << 3 | 1 << 4, "-", bits(2.0), 9.5, 8.0, 1.14))
+    return [*(f"{word} {place} {n + 2}" for word in READINGS), *(figure(words, n) for words in figures)]
+
+
+def played(n, now):
+    """The totals while playing of as many objects as there are now, and three calls that are refused."""
+    return [figure(words, n) for words in (f"prefixes {now + 1}", f"prefixes {now}", f"prefix {now + 1}", rated(0, "-", "-", 9.5, 8.0, math.inf))]
 
 
 def calls(b, n, place):
@@ -36,7 +56,7 @@ def calls(b, n, place):
     last, size = [], chart.object_size(b)
 
     def dragged():
-        yield from [f"buffer {len(b) + size}", f"open {n + 2} {n + 2}", *shown(n, place)]
+        yield from [f"buffer {len(b) + size}", f"open {n + 2} {n + 2}", *shown(n, place), *played(n, n)]
         for step, line in enumerate(drags(b, n, place)):
             yield line
             if len(line.split()[2]) == 2 * size and int(line.split()[1]) == place and step % 10 != 9:
@@ -47,7 +67,7 @@ def calls(b, n, place):
     first = list(dragged())
     put_in, take_out = f"insert {place} {last[0]} {n + 2} {n + 2}", "remove {} " + f"{n + 2} {n + 2}"
     return first, [*shown(n, place), put_in, *shown(n, place), put_in, take_out.format(0), *shown(n, place), take_out.format(place - 1),
-                   take_out.format(n - 1), *shown(n, place - 1)]
+                   take_out.format(n - 1), *shown(n, place - 1), *played(n, n - 1)]
 
 
 def wide(bits):
@@ -58,9 +78,13 @@ def whole(digits):
     return struct.pack(">d", int(digits)).hex().upper()
 
 
-def told(answer):
+def told(line, answer):
     """An answer as the clients print it; a record has its flags last, and all numbers are f64."""
     name, *w = answer.split()
+    if name == "refused":
+        return f"{line.split()[0]}: {answer}"
+    if name == "prefix":
+        return " ".join(["prefix", *w[1:]])
     if name == "record":
         place, *w = w
         return " ".join(["record", *w[:8], wide(w[9]), wide(w[10]), w[11], w[12], w[14], w[15], whole(w[8]), whole(w[13])])
@@ -90,8 +114,8 @@ def main():
         sys.exit(f"{name}: {answers[1]}")
     counts = collections.Counter(a.rpartition(" ")[0] or a for line, a in zip(first, answers) if line.startswith("replace"))
     dragged = [f"{'carried out' if a == 'accepted' else a}: {k} times" for a, k in sorted(counts.items())]
-    read = [told(a) for line, a in zip(first, answers) if not line.startswith(("buffer", "open", "replace"))]
-    rest = [edited(line, a) or told(a) for line, a in zip(after, answers[len(first):]) if not (line.startswith(READINGS) and a.startswith("refused"))]
+    read = [told(line, a) for line, a in zip(first, answers) if not line.startswith(("buffer", "open", "replace"))]
+    rest = [edited(line, a) or told(line, a) for line, a in zip(after, answers[len(first):]) if not (line.startswith(READINGS) and a.startswith("refused"))]
     print("\n".join([f"objects {n}", "opening: carried out", *read, *dragged, *rest]))
 
 

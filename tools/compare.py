@@ -42,7 +42,7 @@ from scripts import KEPT, READINGS, every_place, packed_script, patterns, with_d
 BATCH = 500
 
 # what the oracle is asked for charts
-ASKED = {"lists": ["list"], "parts": ["aimparts", "--no-limit"], "rhythms": ["rhythmcount", "--no-limit"]}
+ASKED = {"lists": ["list", "--counts"], "parts": ["aimparts", "--no-limit"], "rhythms": ["rhythmcount", "--no-limit"]}
 
 
 def damage(rng, b):

@@ -137,7 +137,7 @@ class Oracle:
 
     def listed(self, charts):
         """The lister's lines for each chart."""
-        return [part.partition("\n")[2] for part in re.split(r"(?m)^(?=file )", self.asked("oracle", ["batch", "list"], charts)) if part]
+        return [part.partition("\n")[2] for part in re.split(r"(?m)^(?=file )", self.asked("oracle", ["batch", "list", "--counts"], charts)) if part]
 
     def counters(self, charts):
         """Hits of each branch, `column: branch`."""

@@ -138,4 +138,5 @@ def main(oracle, crate, of_totals="24", of_combinations="56", seed=str(SEED)):
     print(len(questions), file=sys.stderr)
 
 
-main(*sys.argv[1:])
+if __name__ == "__main__":
+    main(*sys.argv[1:])

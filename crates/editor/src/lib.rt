@@ -1,5 +1,5 @@
-// The station's edits of a chart and its two tables: open, replace, insert, remove. Nothing is assumed of the caller: each call answers the first condition of its
-// list that is met and changes nothing, or is carried out.
+// The station's edits of a chart and its two tables: open, replace, insert, remove. Nothing is assumed of the caller: each call answers the first condition of
+// its list that is met and changes nothing, or is carried out.
 ghost use mathlib.Core.Path.{_≡_};
 ghost use Prim.Native.Nat.{_+_, _-_, _*_, _<_, _≤_, min, max};
 ghost use lib.ListN.{length};

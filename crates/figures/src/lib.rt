@@ -1,5 +1,5 @@
-// The station's figures of a chart: what is worked out from the values of all places, with scratch. Nothing is assumed of the caller: each call answers the first
-// condition of its list that is met and changes nothing, or is carried out and leaves all scratch 0. Times come from the chart.
+// The station's figures of a chart: what is worked out from the values of all places, with scratch. Nothing is assumed of the caller: each call answers the
+// first condition of its list that is met and changes nothing, or is carried out and leaves all scratch 0. Times come from the chart.
 ghost use mathlib.Core.Path.{_≡_};
 ghost use mathlib.Core.List.{[]};
 ghost use Prim.Native.Nat.{_+_, _*_, _/_, _≤_};
@@ -194,7 +194,8 @@ pub fn counts(
     flashlight: &mut [f64],
 ) -> CountsAnswer
     ensures answer { λ r. ⌜ result (countsAnswer r) (now (chart .exit)) [] (now (values .exit))
-        ≡ outcome (ops.figure kinds.counts (lengths (scratchOf (now (aim .entry)) (now («aim_no_sliders» .entry)) (now (speed .entry)) (now (flashlight .entry)))))
+        ≡ outcome (ops.figure kinds.counts
+        (lengths (scratchOf (now (aim .entry)) (now («aim_no_sliders» .entry)) (now (speed .entry)) (now (flashlight .entry)))))
         (state (now (chart .entry)) [] (now (values .entry))) ⌝ }
     ensures scratch { λ _. ⌜ scratchOf (now (aim .exit)) (now («aim_no_sliders» .exit)) (now (speed .exit)) (now (flashlight .exit))
         ≡ scratchAfter kinds.counts (state (now (chart .entry)) [] (now (values .entry)))
@@ -260,7 +261,8 @@ pub fn totals_to(
     flashlight: &mut [f64],
 ) -> TotalsAnswer
     ensures answer { λ r. ⌜ result (totalsAnswer r) (now (chart .exit)) [] (now (values .exit))
-        ≡ outcome (ops.figure (kinds.totalsTo m) (lengths (scratchOf (now (aim .entry)) (now («aim_no_sliders» .entry)) (now (speed .entry)) (now (flashlight .entry)))))
+        ≡ outcome (ops.figure (kinds.totalsTo m)
+        (lengths (scratchOf (now (aim .entry)) (now («aim_no_sliders» .entry)) (now (speed .entry)) (now (flashlight .entry)))))
         (state (now (chart .entry)) [] (now (values .entry))) ⌝ }
     ensures scratch { λ _. ⌜ scratchOf (now (aim .exit)) (now («aim_no_sliders» .exit)) (now (speed .exit)) (now (flashlight .exit))
         ≡ scratchAfter (kinds.totalsTo m) (state (now (chart .entry)) [] (now (values .entry)))
@@ -329,9 +331,11 @@ pub fn totals_while_playing(
     speed: &mut [f64],
     flashlight: &mut [f64],
 ) -> Verdict
-    ensures answer { λ r. ⌜ r ≡ verdictIn (ops.figure (kinds.playing (length (now (list .entry)) / totalsWidth)) (lengths (scratchOf (now (aim .entry)) (now («aim_no_sliders» .entry)) (now (speed .entry)) (now (flashlight .entry)))))
+    ensures answer { λ r. ⌜ r ≡ verdictIn (ops.figure (kinds.playing (length (now (list .entry)) / totalsWidth))
+        (lengths (scratchOf (now (aim .entry)) (now («aim_no_sliders» .entry)) (now (speed .entry)) (now (flashlight .entry)))))
         (state (now (chart .entry)) [] (now (values .entry))) ⌝ }
-    ensures list { λ _. ⌜ now (list .exit) ≡ listAfter (outcome (ops.figure (kinds.playing (length (now (list .entry)) / totalsWidth)) (lengths (scratchOf (now (aim .entry)) (now («aim_no_sliders» .entry)) (now (speed .entry)) (now (flashlight .entry)))))
+    ensures list { λ _. ⌜ now (list .exit) ≡ listAfter (outcome (ops.figure (kinds.playing (length (now (list .entry)) / totalsWidth))
+        (lengths (scratchOf (now (aim .entry)) (now («aim_no_sliders» .entry)) (now (speed .entry)) (now (flashlight .entry)))))
         (state (now (chart .entry)) [] (now (values .entry))) .answer) (now (list .entry)) ⌝ }
     ensures leaves { λ _. ⌜ state (now (chart .exit)) [] (now (values .exit)) ≡ state (now (chart .entry)) [] (now (values .entry)) ⌝ }
     ensures scratch { λ _. ⌜ scratchOf (now (aim .exit)) (now («aim_no_sliders» .exit)) (now (speed .exit)) (now (flashlight .exit))

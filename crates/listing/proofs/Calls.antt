@@ -1,4 +1,4 @@
--- What the calls answer on a chart within the limit: opening as conditions 1 to 6 say, readings and totals what the filled table holds.
+-- What the calls answer on a chart within the limit: opening as conditions 1 to 6 say, readings, totals and counts what the filled table holds.
 -- Assumes nothing.
 use Prim.Native.Nat.{ℕ, _+_, _*_, _/_, _≤_, _<_}
 use native.Mathlib.Nat.{mul-le-mul, le-refl}
@@ -20,22 +20,20 @@ use Rattle.chart_opening.proofs.Header.{holds}
 use Rattle.eval_values.specs.declared.Values.{Values}
 use Rattle.eval_values.specs.Values.{rowOf}
 use Rattle.skills.specs.declared.Skills.{Skills}
+use Rattle.skills_counts.specs.declared.ObjectCounts.{ObjectCounts}
 use Rattle.calls.specs.Tables.{recordWidth, valueWidth}
-use Rattle.calls.specs.Afresh.{freshValues, totals, Amount, totalsAre, totalsOf, figureOf}
+use Rattle.calls.specs.Afresh.{Figure, totals, counts, totalsAre, countsAre, figureOf, freshFigure}
 use Rattle.calls.specs.Conditions.{Scratch, lengths, scratchShort, readValues, figure, readConditions, askedConditions, opening, refusal}
 use Rattle.calls.specs.Calls.{Answer, refused, valuesAre, figureIs, State, state, opened, openAnswer, openLeaves, execute, verdictIn, outcome}
 use Rattle.calls.specs.Statement.{Fresh}
 use Rattle.calls.proofs.Refusals.{opening-none, figure-accepted}
-use Rattle.calls.proofs.Locality.{open-fresh, open-values-length, totals-local}
+use Rattle.calls.proofs.Locality.{open-fresh, open-values-length, figure-local}
 use Rattle.calls.proofs.Alone.{carried-out}
 use Rattle.readings.specs.Answers.{valuesAnswer}
-use Rattle.figures.specs.Answers.{totalsAnswer}
 use Rattle.readings.specs.declared.ValuesAnswer.{ValuesAnswer}
-use Rattle.figures.specs.declared.TotalsAnswer.{TotalsAnswer}
 use Rattle.readings.specs.declared.ValuesAnswer.the-variants as OfValues
-use Rattle.figures.specs.declared.TotalsAnswer.the-variants as OfTotals
 use Rattle.lines.specs.Lines.{refusalText}
-use Rattle.listing.specs.List.{limit, mostListed, metText, totalsAfresh, afreshText, chartText, Filled, Tables, ScratchRoom}
+use Rattle.listing.specs.List.{limit, mostListed, metText, valuesAfresh, totalsAfresh, countsAfresh, afreshText, chartText, Filled, Tables, ScratchRoom}
 
 -- ---- Opening
 
@@ -89,13 +87,12 @@ module _ (b : List ℕ) (rs vs : List Float) (within : length b ≤ limit) (room
           opens = opens;
           rows = rw (open-values-length (settingsOf b) b rs vs records-fit values-fit) values-fit;
           values = f .values;
-          totals = totals-local (settingsOf b) b _ (freshValues (settingsOf b) b) (f .values);
         }
 
     pub accepted-filled : (y : State) → y ≡ openLeaves (state b rs vs) → Filled b (y .values)
     accepted-filled y q = subst (λ (t : State). Filled b (t .values)) (sym (q ∙ left)) filled
 
--- ---- Readings and totals
+-- ---- Readings, totals and counts
 
 module _ (b : List ℕ) (vs : List Float) (f : Filled b vs) where
   pub has-header : 80 ≤ length b
@@ -128,24 +125,31 @@ module _ (b : List ℕ) (vs : List Float) (f : Filled b vs) where
     long =
         rw (le-ltb (length (x .aim)) 8192 (room .aim-room), le-ltb (length (x .aimNoSliders)) 8192 (room .no-sliders-room), le-ltb (length (x .speed)) 8192 (room .speed-room), le-ltb (length (x .flashlight)) 8192 (room .flashlight-room))
 
-    totals-not-refused : verdictIn (figure totals (lengths x)) (state b [] vs) ≡ Accepted
-    unfolding verdictIn askedConditions firstOf
-    totals-not-refused = figure-accepted totals (lengths x) 0 (length vs) b .1 (f .opens, f .rows, long, refl)
+    -- a figure whose own conditions pass is not refused, and is the one worked out afresh
+    worked-out : (g : Figure) → firstOf (askedConditions g (layoutOf b .n)) ≡ Accepted
+        → outcome (figure g (lengths x)) (state b [] vs) .answer ≡ figureIs (freshFigure g (settingsOf b) b)
+    unfolding verdictIn execute
+    worked-out g passes =
+        ap (λ y. y .answer) (carried-out (figure g (lengths x)) (state b [] vs) (figure-accepted g (lengths x) 0 (length vs) b .1 (f .opens, f .rows, long, passes)))
+        ∙ ap figureIs (figure-local g (settingsOf b) b (row valueWidth vs) (valuesAfresh b) passes (f .values))
 
-    summing : outcome (figure totals (lengths x)) (state b [] vs) .answer ≡ figureIs (totalsAre (totalsOf (settingsOf b) b (row valueWidth vs)))
-    unfolding execute figureOf
-    summing = ap (λ y. y .answer) (carried-out (figure totals (lengths x)) (state b [] vs) totals-not-refused)
-
-    pub totals-are : (t : Skills) (a : TotalsAnswer) → a ≡ OfTotals.Totals t → totalsAnswer a ≡ outcome (figure totals (lengths x)) (state b [] vs) .answer
-        → t ≡ totalsAfresh b
-    totals-are t a g e =
-        let q : figureIs (totalsAre t) ≡ figureIs (totalsAre (totalsOf (settingsOf b) b (row valueWidth vs))) = ap totalsAnswer (sym g) ∙ (e ∙ summing) in
-        let p : totalsAre t ≡ totalsAre (totalsOf (settingsOf b) b (row valueWidth vs)) = cc in
-        let r : t ≡ totalsOf (settingsOf b) b (row valueWidth vs) = cc in
-        r ∙ f .totals
-
-    pub totals-carried-out : (y : Refusal) (a : TotalsAnswer) → a ≡ OfTotals.Refused y → totalsAnswer a ≡ outcome (figure totals (lengths x)) (state b [] vs) .answer → ⊥
-    totals-carried-out y a g e =
-        let q : refused y ≡ figureIs (totalsAre (totalsOf (settingsOf b) b (row valueWidth vs))) = ap totalsAnswer (sym g) ∙ (e ∙ summing) in
+    pub figure-carried-out : (g : Figure) → firstOf (askedConditions g (layoutOf b .n)) ≡ Accepted
+        → (y : Refusal) → refused y ≡ outcome (figure g (lengths x)) (state b [] vs) .answer → ⊥
+    figure-carried-out g passes y e =
+        let q : refused y ≡ figureIs (freshFigure g (settingsOf b) b) = e ∙ worked-out g passes in
         let z : _≡_ {A = ℕ} 0 1 = cc in
         omega arith
+
+    pub totals-are : (t : Skills) → figureIs (totalsAre t) ≡ outcome (figure totals (lengths x)) (state b [] vs) .answer → t ≡ totalsAfresh b
+    unfolding askedConditions firstOf figureOf
+    totals-are t e =
+        let q : figureIs (totalsAre t) ≡ figureIs (totalsAre (totalsAfresh b)) = e ∙ worked-out totals refl in
+        let p : totalsAre t ≡ totalsAre (totalsAfresh b) = cc in
+        cc
+
+    pub counts-are : (n : ObjectCounts) → figureIs (countsAre n) ≡ outcome (figure counts (lengths x)) (state b [] vs) .answer → n ≡ countsAfresh b
+    unfolding askedConditions firstOf figureOf
+    counts-are n e =
+        let q : figureIs (countsAre n) ≡ figureIs (countsAre (countsAfresh b)) = e ∙ worked-out counts refl in
+        let p : countsAre n ≡ countsAre (countsAfresh b) = cc in
+        cc

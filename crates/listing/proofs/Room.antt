@@ -13,14 +13,14 @@ use Rattle.text.specs.Buffer.{Puts, then, same-text, fits, length-kept}
 use Rattle.num_tables.specs.Parts.{row}
 use Rattle.chart_opening.specs.Header.{layoutOf, settingsOf}
 use Rattle.skills.specs.declared.Skills.{Skills}
-use Rattle.lines.specs.Lines.{placeText, totalsText, countText, refusalText}
-use Rattle.lines.specs.Lengths.{refusal-length, count-length, place-length, totals-length}
+use Rattle.lines.specs.Lines.{placeText, totalsText, countsText, countText, refusalText}
+use Rattle.lines.specs.Lengths.{refusal-length, count-length, place-length, totals-length, counts-length}
 use Rattle.eval_values.specs.Laws.{values-width}
 use Rattle.chart_opening.specs.Conditions.{refusalNumber, refusalPlace, firstOf, ifAccepted, chartConditions}
 use Rattle.chart_opening.specs.declared.Verdict.{Verdict}
 use Rattle.chart_opening.specs.declared.Verdict.the-variants.{Accepted, Refused}
 use Rattle.calls.specs.Afresh.{freshValues}
-use Rattle.listing.specs.List.{limit, beyondText, metText, placesText, openedText, valuesAfresh, totalsAfresh, afreshText, chartText, listText, mostListed, Filled}
+use Rattle.listing.specs.List.{limit, beyondText, metText, placesText, openedText, valuesAfresh, totalsAfresh, countsAfresh, afreshText, chartText, listText, mostListed, Filled}
 use Rattle.listing.proofs.Calls.{few-objects}
 
 -- ---- A turn of the loop over places
@@ -44,11 +44,11 @@ places-same f g (suc k) h =
     λ i. places-same f g k (λ j a c. h j a (omega arith)) i ++ placeText (suc k) (h (suc k) (omega arith) (omega arith) i)
 
 pub filled-text : (b : List ℕ) (vs : List Float) → Filled b vs → (n : ℕ) → n ≡ layoutOf b .n
-    → countText n ++ placesText (row 5 vs) (n - 1) ++ totalsText (totalsAfresh b) ≡ afreshText b
+    → countText n ++ placesText (row 5 vs) (n - 1) ++ totalsText (totalsAfresh b) ++ countsText (countsAfresh b) ≡ afreshText b
 unfolding afreshText openedText
 filled-text b vs f n e =
-    (λ i. countText (e i) ++ placesText (row 5 vs) (e i - 1) ++ totalsText (totalsAfresh b))
-    ∙ ap (λ (t : List ℕ). countText (layoutOf b .n) ++ t ++ totalsText (totalsAfresh b))
+    (λ i. countText (e i) ++ placesText (row 5 vs) (e i - 1) ++ totalsText (totalsAfresh b) ++ countsText (countsAfresh b))
+    ∙ ap (λ (t : List ℕ). countText (layoutOf b .n) ++ t ++ totalsText (totalsAfresh b) ++ countsText (countsAfresh b))
     (places-same (row 5 vs) (valuesAfresh b) (layoutOf b .n - 1) (λ j a c. f .values j a (omega arith)))
 
 -- ---- The limit
@@ -74,7 +74,7 @@ unfolding afreshText openedText freshValues
 afresh-length b h =
     let n = layoutOf b .n in
     simp length-append
-    (omega (arith, count-length n, places-length (valuesAfresh b) (λ j. values-width _ _ _ _ j) (n - 1), totals-length (totalsAfresh b)))
+    (omega (arith, count-length n, places-length (valuesAfresh b) (λ j. values-width _ _ _ _ j) (n - 1), totals-length (totalsAfresh b), counts-length (countsAfresh b)))
 
 -- 65,536 bytes are enough for every listing
 pub list-length : (b : List ℕ) → length (listText b) ≤ 65536

@@ -1,4 +1,5 @@
--- Document 01, "The lister", its worked example: what is printed of two circles, computed by the checker from the chart's bytes. Assumes nothing.
+-- Document 01, "The lister", its worked example, with the line of document 02, order 2: what is printed of two circles, computed by the checker from the
+-- chart's bytes. Assumes nothing.
 use Prim.Native.Nat.{ℕ, zero, suc, _/_, _%_}
 use mathlib.Core.Path.{_≡_, refl}
 use mathlib.Core.List.{List, [], _∷_, _++_}
@@ -20,7 +21,8 @@ use Rattle.osu_object.specs.Osu.{countBelow, endPos, kindOf, lastBelow, listFro
 use Rattle.chart_opening.specs.Header.{countsOk, headerOk, layoutOf, offsetsOk, reservedOk, settingsAt, settingsOk, sizeFor, tooLong}
 use Rattle.osu_difficulty_object.specs.Reading.{doubletapness, fadeIn, fadeOut}
 use Rattle.osu_difficulty_object.specs.Record.{angleTo, endCursor, jumpDist, jumpFrom, jumpOf, lastCursor, minJumpDist, minJumpTime, newRecord, placedOf, plainOf, recordOf as objectRecordOf}
-use Rattle.num_util.specs.Difficulty.{millisecondsToBpm, reverseLerp, smootherstep}
+use Rattle.num_util.specs.Difficulty.{logistic, millisecondsToBpm, reverseLerp, smootherstep}
+use Rattle.num_util.specs.FloatExt.{eq as nearlyEqual}
 use Rattle.eval_aim.specs.Aim.{aimOf, allParts, anglesOf}
 use Rattle.eval_speed.specs.Speed.{distBonus, speedBonus, speedBy, speedOf, strainTime}
 use Rattle.eval_rhythm.specs.Rhythm.{cellOf, rhythmBy, runOf, startFrom, startOf, valueOf as rhythmValueOf}
@@ -30,12 +32,15 @@ use Rattle.eval_values.specs.Values.{valuesOf}
 use Rattle.num_sort.specs.Sort.{insert, sortDesc}
 use Rattle.skills.specs.Strains.{base, closeOne, closeTo, column, current, elapsed, initialStrain, joined, multiplier, peaksTo, reached, strainAt, strainDecay, strainNext, strains, total, totalTo, walk}
 use Rattle.skills.specs.Value.{clamped, difficultyOf, difficultyValue, lerp, positives, reduced, reduction, sumFrom, weighted}
+use Rattle.skills_counts.specs.Lists.{countTopWeightedSliders, countTopWeightedStrains, getDifficultSliders, maxFrom, relevantNoteCount, share, sliderWeight, topStrain, totalKey, totalMax, totalMaxFrom, weight}
+use Rattle.skills_counts.specs.Counts.{counts, countsBy, listFrom as strainsFrom}
+use Rattle.skills_counts.specs.Chart.{sliderAt}
 use Rattle.text.specs.Text.{decimalText, decimalUpTo, digit, f64Text, hexText}
-use Rattle.lines.specs.Lines.{countText, numberText, numbersText, placeText, refusalText, skillsText, totalsText}
+use Rattle.lines.specs.Lines.{countNumbers, countText, countsText, numberText, numbersText, placeText, refusalText, skillsText, totalsText}
 use Rattle.chart_opening.specs.Conditions.{firstOf, ifAccepted, bodyConditions, chartConditions}
 use Rattle.osu_difficulty_object.specs.Record.{chartRecord}
 use Rattle.skills.specs.Chart.{startAt, deltaAt}
-use Rattle.calls.specs.Afresh.{freshValues, totalsOf}
+use Rattle.calls.specs.Afresh.{countsOf, freshValues, totalsOf}
 use Rattle.listing.specs.List.{afreshText, beyondText, chartText, listText, metText, openedText, placesText}
 
 -- v in n bytes, lowest first
@@ -67,8 +72,9 @@ printed =
     ascii "objects 2\n"
     ++ ascii "1 0000000000000000 0000000000000000 3FF0000000000000 3FF0000000000000 0000000000000000\n"
     ++ ascii "totals 0000000000000000 0000000000000000 3FF1A3D70A3D70A4 0000000000000000\n"
+    ++ ascii "counts 3FF0000000000000 3FF0000000000000 3FF199999999999A 0000000000000000 0000000000000000 0000000000000000 3FEFEBBE888D058D\n"
 
 -- the definitions named here are those that the computation runs through
 pub two-circles : listText twoCircles ≡ printed
-unfolding little add climb div eq le lt mul ne neg odd ofBits ofFields ofInt rem round size span sub sum toBits toSigned absOf clampOf maxOf minOf f32At f64At u32At u64At rootDrop rootKept rootOf ceilOf truncOf logBits logOf expOf log10Of powerOf powerOther twoOf twoRoot twoRound lengthOf badFields falls fieldsAt fieldsOf fieldsOk statedLength firstBelow firstFrom badEntries lengthOk nestedAt baseOf repeatsOf countBelow endPos kindOf lastBelow listFrom objectOf osuObject repeatCount runsOf countsOk headerOk layoutOf offsetsOk reservedOk settingsAt settingsOk sizeFor tooLong doubletapness fadeIn fadeOut angleTo endCursor jumpDist jumpFrom jumpOf lastCursor minJumpDist minJumpTime newRecord placedOf plainOf objectRecordOf millisecondsToBpm reverseLerp smootherstep aimOf allParts anglesOf distBonus speedBonus speedOf strainTime speedBy cellOf rhythmBy runOf startFrom startOf rhythmValueOf factorOf fasterTwice rhythmFreshState freshWalk lastRatio progressedOf addedOf evaluatorOf flashlightOf flashlightFreshState hiddenOf opacityBonus repeatedOf sharedOf sliderBonus smallDistNerf stepOf turnsOf flashlightValueOf valuesOf insert sortDesc base closeOne closeTo column current elapsed initialStrain joined multiplier peaksTo reached strainAt strainDecay strainNext strains total totalTo walk clamped difficultyOf difficultyValue lerp positives reduced reduction sumFrom weighted decimalText decimalUpTo digit f64Text hexText countText numberText numbersText placeText refusalText skillsText totalsText deltaAt startAt chartRecord totalsOf ifAccepted freshValues bodyConditions chartConditions firstOf afreshText beyondText chartText listText metText openedText placesText
+unfolding little add climb div eq le lt mul ne neg odd ofBits ofFields ofInt rem round size span sub sum toBits toSigned absOf clampOf maxOf minOf f32At f64At u32At u64At rootDrop rootKept rootOf ceilOf truncOf logBits logOf expOf log10Of powerOf powerOther twoOf twoRoot twoRound lengthOf badFields falls fieldsAt fieldsOf fieldsOk statedLength firstBelow firstFrom badEntries lengthOk nestedAt baseOf repeatsOf countBelow endPos kindOf lastBelow listFrom objectOf osuObject repeatCount runsOf countsOk headerOk layoutOf offsetsOk reservedOk settingsAt settingsOk sizeFor tooLong doubletapness fadeIn fadeOut angleTo endCursor jumpDist jumpFrom jumpOf lastCursor minJumpDist minJumpTime newRecord placedOf plainOf objectRecordOf logistic millisecondsToBpm reverseLerp smootherstep nearlyEqual aimOf allParts anglesOf distBonus speedBonus speedOf strainTime speedBy cellOf rhythmBy runOf startFrom startOf rhythmValueOf factorOf fasterTwice rhythmFreshState freshWalk lastRatio progressedOf addedOf evaluatorOf flashlightOf flashlightFreshState hiddenOf opacityBonus repeatedOf sharedOf sliderBonus smallDistNerf stepOf turnsOf flashlightValueOf valuesOf insert sortDesc base closeOne closeTo column current elapsed initialStrain joined multiplier peaksTo reached strainAt strainDecay strainNext strains total totalTo walk clamped difficultyOf difficultyValue lerp positives reduced reduction sumFrom weighted countTopWeightedSliders countTopWeightedStrains getDifficultSliders maxFrom relevantNoteCount share sliderWeight topStrain totalKey totalMax totalMaxFrom weight counts countsBy strainsFrom sliderAt decimalText decimalUpTo digit f64Text hexText countNumbers countText countsText numberText numbersText placeText refusalText skillsText totalsText deltaAt startAt chartRecord countsOf totalsOf ifAccepted freshValues bodyConditions chartConditions firstOf afreshText beyondText chartText listText metText openedText placesText
 two-circles = refl

@@ -9,11 +9,12 @@ use lib.ListN.{length}
 use Rattle.num_tables.specs.Parts.{row}
 use Rattle.chart_opening.specs.Header.{layoutOf, settingsOf}
 use Rattle.skills.specs.declared.Skills.{Skills}
-use Rattle.lines.specs.Lines.{refusalText, countText, placeText, totalsText}
+use Rattle.skills_counts.specs.declared.ObjectCounts.{ObjectCounts}
+use Rattle.lines.specs.Lines.{refusalText, countText, placeText, totalsText, countsText}
 use Rattle.chart_opening.specs.Conditions.{refusalNumber, refusalPlace, firstOf, ifAccepted, chartConditions, Opens}
 use Rattle.chart_opening.specs.declared.Refusal.{Refusal}
 use Rattle.calls.specs.Tables.{recordWidth, valueWidth, leastScratch}
-use Rattle.calls.specs.Afresh.{freshValues, totalsOf}
+use Rattle.calls.specs.Afresh.{freshValues, totalsOf, countsOf}
 
 -- "reads a chart (to 32,768 bytes ..)"
 abbrev pub limit : ℕ
@@ -32,22 +33,26 @@ unfoldable pub placesText : (ℕ → List Float) → ℕ → List ℕ
 placesText values zero = []
 placesText values (suc k) = placesText values k ++ placeText (suc k) (values (suc k))
 
--- of n objects: "the word objects and N; per place from 1 ..; then a line that begins with the word totals"
-unfoldable pub openedText : ℕ → (ℕ → List Float) → Skills → List ℕ
-openedText n values totals = countText n ++ placesText values (n - 1) ++ totalsText totals
+-- of n objects: "the word objects and N; per place from 1 ..; then a line that begins with the word totals"; document 02, order 2: "a further line after the
+-- totals"
+unfoldable pub openedText : ℕ → (ℕ → List Float) → Skills → ObjectCounts → List ℕ
+openedText n values totals counts = countText n ++ placesText values (n - 1) ++ totalsText totals ++ countsText counts
 
--- the values of a place and the totals, worked out afresh
+-- the values of a place, the totals and the counts, worked out afresh
 abbrev pub valuesAfresh : List ℕ → ℕ → List Float
 valuesAfresh b = freshValues (settingsOf b) b
 
 abbrev pub totalsAfresh : List ℕ → Skills
 totalsAfresh b = totalsOf (settingsOf b) b (valuesAfresh b)
 
+abbrev pub countsAfresh : List ℕ → ObjectCounts
+countsAfresh b = countsOf (settingsOf b) b (valuesAfresh b)
+
 -- what is listed of a chart that opens
 unfoldable pub afreshText : List ℕ → List ℕ
-afreshText b = openedText (layoutOf b .n) (valuesAfresh b) (totalsAfresh b)
+afreshText b = openedText (layoutOf b .n) (valuesAfresh b) (totalsAfresh b) (countsAfresh b)
 
--- within the limit: the first of conditions 1 to 6 that is met, else the chart's values and totals
+-- within the limit: the first of conditions 1 to 6 that is met, else the chart's values, totals and counts
 unfoldable pub chartText : List ℕ → List ℕ
 chartText b = ifAccepted (firstOf (chartConditions b)) (afreshText b) metText
 
@@ -62,7 +67,6 @@ pub record Filled (b : List ℕ) (vs : List Float) : Type 0 where
   pub opens : Opens b
   pub rows : valueWidth * layoutOf b .n ≤ length vs
   pub values : (j : ℕ) → 1 ≤ j → j < layoutOf b .n → row valueWidth vs j ≡ valuesAfresh b j
-  pub totals : totalsOf (settingsOf b) b (row valueWidth vs) ≡ totalsAfresh b
 
 -- the objects that a chart within the limit can have: each takes at least 56 bytes behind the header's 80
 abbrev pub mostListed : ℕ

@@ -1,13 +1,14 @@
-// The lines that list a chart: the number of objects, the values of each place and the totals, or the refusal.
+// The lines that list a chart: the number of objects, the values of each place, the totals and the counts, or the refusal.
 ghost use Prim.Native.Nat.{_≤_, _<_, _-_};
 ghost use lib.ListN.{length};
 ghost use Rattle.text.specs.Buffer.{Puts};
 ghost use Rattle.num_tables.specs.Parts.{row};
 ghost use Rattle.chart_opening.specs.Header.{layoutOf};
-ghost use Rattle.lines.specs.Lines.{placeText, totalsText};
-ghost use Rattle.listing.specs.List.{limit, placesText, totalsAfresh, afreshText, chartText, listText, Filled, Tables, ScratchRoom};
+ghost use Rattle.lines.specs.Lines.{placeText, totalsText, countsText};
+ghost use Rattle.listing.specs.List.{limit, placesText, totalsAfresh, countsAfresh, afreshText, chartText, listText, Filled, Tables, ScratchRoom};
 use chart_opening::Refusal;
 use chart_opening::Verdict;
+use figures::CountsAnswer;
 use figures::TotalsAnswer;
 use readings::ValuesAnswer;
 
@@ -21,7 +22,7 @@ const RECORDS: usize = calls::RECORD_WIDTH * OBJECTS;
 
 const VALUES: usize = calls::VALUE_WIDTH * OBJECTS;
 
-// The numbers that totals need for each skill.
+// The numbers that totals and counts need for each skill.
 const SCRATCH: usize = 8192;
 
 // The line of a place.
@@ -70,6 +71,27 @@ fn put_totals(
     }
 }
 
+// The counts' line.
+fn put_counts(
+    out: &mut [u8],
+    at: usize,
+    chart: &[u8],
+    values: &[f64],
+    aim: &mut [f64],
+    aim_no_sliders: &mut [f64],
+    speed: &mut [f64],
+    flashlight: &mut [f64],
+) -> usize
+    requires { ⌜ Filled (now chart) (now values)
+        × ScratchRoom (length (now aim)) (length (now «aim_no_sliders»)) (length (now speed)) (length (now flashlight)) ⌝ }
+    ensures { λ r. ⌜ Puts (countsText (countsAfresh (now (chart .entry)))) (now (out .entry)) at (now (out .exit)) r ⌝ }
+{
+    match figures::counts(chart, values, aim, aim_no_sliders, speed, flashlight) {
+        CountsAnswer::Refused(r) => lines::put_refusal(out, at, r),
+        CountsAnswer::Counts(c) => lines::put_counts(out, at, c),
+    }
+}
+
 // The lines of a chart that is opened.
 fn put_opened(
     out: &mut [u8],
@@ -87,9 +109,19 @@ fn put_opened(
     let n = chart_opening::layout_of(chart).n;
     let count = lines::put_count(out, 0, n);
     let places = put_places(out, count, chart, values, n);
-    put_totals(
+    let totals = put_totals(
         out,
         places,
+        chart,
+        values,
+        aim,
+        aim_no_sliders,
+        speed,
+        flashlight,
+    );
+    put_counts(
+        out,
+        totals,
         chart,
         values,
         aim,

@@ -1,5 +1,5 @@
-// The station's readings of a place: its record, its values, and what is worked out from the records there. Nothing is assumed of the caller: each reading answers
-// the first of conditions 1, 7 and 8 that is met, and writes nothing.
+// The station's readings of a place: its record, its values, and what is worked out from the records there. Nothing is assumed of the caller: each reading
+// answers the first of conditions 1, 7 and 8 that is met, and writes nothing.
 ghost use mathlib.Core.Path.{_≡_};
 ghost use mathlib.Core.List.{[]};
 ghost use lib.ListN.{length};

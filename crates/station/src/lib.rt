@@ -83,7 +83,8 @@ pub extern "C" fn difficulty_replace(
     values: &mut [f64],
 ) -> u64
     ensures answer { λ r. ⌜ r
-        ≡ answerCode (outcome (ops.replace place (now (object .entry))) (state (now (chart .entry)) (now (records .entry)) (now (values .entry))) .answer) ⌝ }
+        ≡ answerCode (outcome (ops.replace place (now (object .entry)))
+        (state (now (chart .entry)) (now (records .entry)) (now (values .entry))) .answer) ⌝ }
     ensures leaves { λ _. ⌜ state (now (chart .exit)) (now (records .exit)) (now (values .exit))
         ≡ outcome (ops.replace place (now (object .entry))) (state (now (chart .entry)) (now (records .entry)) (now (values .entry))) .leaves ⌝ }
     ensures object { λ _. ⌜ now (object .exit) ≡ now (object .entry) ⌝ }
@@ -104,7 +105,8 @@ pub extern "C" fn difficulty_insert(
     values: &mut [f64],
 ) -> u64
     ensures answer { λ r. ⌜ r
-        ≡ answerCode (outcome (ops.insert place (now (object .entry))) (state (now (chart .entry)) (now (records .entry)) (now (values .entry))) .answer) ⌝ }
+        ≡ answerCode (outcome (ops.insert place (now (object .entry)))
+        (state (now (chart .entry)) (now (records .entry)) (now (values .entry))) .answer) ⌝ }
     ensures leaves { λ _. ⌜ state (now (chart .exit)) (now (records .exit)) (now (values .exit))
         ≡ outcome (ops.insert place (now (object .entry))) (state (now (chart .entry)) (now (records .entry)) (now (values .entry))) .leaves ⌝ }
     ensures object { λ _. ⌜ now (object .exit) ≡ now (object .entry) ⌝ }
@@ -164,9 +166,11 @@ pub extern "C" fn difficulty_read_record(
     out: &mut [f64],
 ) -> u64
     ensures answer { λ r. ⌜ r
-        ≡ answerCode (readInto 16 (length (now (out .entry))) (ops.readRecord place) (state (now (chart .entry)) (now (records .entry)) []) .answer) ⌝ }
+        ≡ answerCode (readInto 16 (length (now (out .entry))) (ops.readRecord place)
+        (state (now (chart .entry)) (now (records .entry)) []) .answer) ⌝ }
     ensures out { λ _. ⌜ now (out .exit)
-        ≡ put 0 (numbersOf (readInto 16 (length (now (out .entry))) (ops.readRecord place) (state (now (chart .entry)) (now (records .entry)) []) .answer))
+        ≡ put 0 (numbersOf (readInto 16 (length (now (out .entry))) (ops.readRecord place)
+        (state (now (chart .entry)) (now (records .entry)) []) .answer))
         (now (out .entry)) ⌝ }
     ensures leaves { λ _. ⌜ state (now (chart .exit)) (now (records .exit)) [] ≡ state (now (chart .entry)) (now (records .entry)) [] ⌝ }
 {
@@ -201,7 +205,8 @@ pub extern "C" fn difficulty_read_values(
     ensures answer { λ r. ⌜ r
         ≡ answerCode (readInto 5 (length (now (out .entry))) (ops.readValues place) (state (now (chart .entry)) [] (now (values .entry))) .answer) ⌝ }
     ensures out { λ _. ⌜ now (out .exit)
-        ≡ put 0 (numbersOf (readInto 5 (length (now (out .entry))) (ops.readValues place) (state (now (chart .entry)) [] (now (values .entry))) .answer))
+        ≡ put 0 (numbersOf (readInto 5 (length (now (out .entry))) (ops.readValues place)
+        (state (now (chart .entry)) [] (now (values .entry))) .answer))
         (now (out .entry)) ⌝ }
     ensures leaves { λ _. ⌜ state (now (chart .exit)) [] (now (values .exit)) ≡ state (now (chart .entry)) [] (now (values .entry)) ⌝ }
 {
@@ -449,12 +454,15 @@ pub extern "C" fn difficulty_totals_to(
     out: &mut [f64],
 ) -> u64
     ensures answer { λ r. ⌜ r ≡ answerCode (figureInto (kinds.totalsTo m) (ltb (length (now (out .entry))) totalsWidth)
-        (scratchOf (now (aim .entry)) (now («aim_no_sliders» .entry)) (now (speed .entry)) (now (flashlight .entry))) (state (now (chart .entry)) [] (now (values .entry))) .answer) ⌝ }
+        (scratchOf (now (aim .entry)) (now («aim_no_sliders» .entry)) (now (speed .entry)) (now (flashlight .entry)))
+        (state (now (chart .entry)) [] (now (values .entry))) .answer) ⌝ }
     ensures scratch { λ _. ⌜ scratchOf (now (aim .exit)) (now («aim_no_sliders» .exit)) (now (speed .exit)) (now (flashlight .exit))
         ≡ scratchInto (kinds.totalsTo m) (ltb (length (now (out .entry))) totalsWidth)
-        (scratchOf (now (aim .entry)) (now («aim_no_sliders» .entry)) (now (speed .entry)) (now (flashlight .entry))) (state (now (chart .entry)) [] (now (values .entry))) ⌝ }
+        (scratchOf (now (aim .entry)) (now («aim_no_sliders» .entry)) (now (speed .entry)) (now (flashlight .entry)))
+        (state (now (chart .entry)) [] (now (values .entry))) ⌝ }
     ensures out { λ _. ⌜ now (out .exit) ≡ put 0 (numbersOf (figureInto (kinds.totalsTo m) (ltb (length (now (out .entry))) totalsWidth)
-        (scratchOf (now (aim .entry)) (now («aim_no_sliders» .entry)) (now (speed .entry)) (now (flashlight .entry))) (state (now (chart .entry)) [] (now (values .entry))) .answer)) (now (out .entry)) ⌝ }
+        (scratchOf (now (aim .entry)) (now («aim_no_sliders» .entry)) (now (speed .entry)) (now (flashlight .entry)))
+        (state (now (chart .entry)) [] (now (values .entry))) .answer)) (now (out .entry)) ⌝ }
     ensures leaves { λ _. ⌜ state (now (chart .exit)) [] (now (values .exit)) ≡ state (now (chart .entry)) [] (now (values .entry)) ⌝ }
 {
     match totals_to_into(
@@ -487,9 +495,11 @@ pub extern "C" fn difficulty_totals_while_playing(
     flashlight: &mut [f64],
 ) -> u64
     ensures answer { λ r. ⌜ r ≡ verdictCode (verdictIn (ops.figure (kinds.playing (length (now (list .entry)) / totalsWidth)) (lengths
-        (scratchOf (now (aim .entry)) (now («aim_no_sliders» .entry)) (now (speed .entry)) (now (flashlight .entry))))) (state (now (chart .entry)) [] (now (values .entry)))) ⌝ }
+        (scratchOf (now (aim .entry)) (now («aim_no_sliders» .entry)) (now (speed .entry)) (now (flashlight .entry)))))
+        (state (now (chart .entry)) [] (now (values .entry)))) ⌝ }
     ensures list { λ _. ⌜ now (list .exit) ≡ listAfter (outcome (ops.figure (kinds.playing (length (now (list .entry)) / totalsWidth)) (lengths
-        (scratchOf (now (aim .entry)) (now («aim_no_sliders» .entry)) (now (speed .entry)) (now (flashlight .entry))))) (state (now (chart .entry)) [] (now (values .entry))) .answer) (now (list .entry)) ⌝ }
+        (scratchOf (now (aim .entry)) (now («aim_no_sliders» .entry)) (now (speed .entry)) (now (flashlight .entry)))))
+        (state (now (chart .entry)) [] (now (values .entry))) .answer) (now (list .entry)) ⌝ }
     ensures leaves { λ _. ⌜ state (now (chart .exit)) [] (now (values .exit)) ≡ state (now (chart .entry)) [] (now (values .entry)) ⌝ }
     ensures scratch { λ _. ⌜ scratchOf (now (aim .exit)) (now («aim_no_sliders» .exit)) (now (speed .exit)) (now (flashlight .exit))
         ≡ scratchAfter (kinds.playing (length (now (list .entry)) / totalsWidth)) (state (now (chart .entry)) [] (now (values .entry)))
@@ -558,12 +568,15 @@ pub extern "C" fn difficulty_counts(
     out: &mut [f64],
 ) -> u64
     ensures answer { λ r. ⌜ r ≡ answerCode (figureInto kinds.counts (ltb (length (now (out .entry))) countsWidth)
-        (scratchOf (now (aim .entry)) (now («aim_no_sliders» .entry)) (now (speed .entry)) (now (flashlight .entry))) (state (now (chart .entry)) [] (now (values .entry))) .answer) ⌝ }
+        (scratchOf (now (aim .entry)) (now («aim_no_sliders» .entry)) (now (speed .entry)) (now (flashlight .entry)))
+        (state (now (chart .entry)) [] (now (values .entry))) .answer) ⌝ }
     ensures scratch { λ _. ⌜ scratchOf (now (aim .exit)) (now («aim_no_sliders» .exit)) (now (speed .exit)) (now (flashlight .exit))
         ≡ scratchInto kinds.counts (ltb (length (now (out .entry))) countsWidth)
-        (scratchOf (now (aim .entry)) (now («aim_no_sliders» .entry)) (now (speed .entry)) (now (flashlight .entry))) (state (now (chart .entry)) [] (now (values .entry))) ⌝ }
+        (scratchOf (now (aim .entry)) (now («aim_no_sliders» .entry)) (now (speed .entry)) (now (flashlight .entry)))
+        (state (now (chart .entry)) [] (now (values .entry))) ⌝ }
     ensures out { λ _. ⌜ now (out .exit) ≡ put 0 (numbersOf (figureInto kinds.counts (ltb (length (now (out .entry))) countsWidth)
-        (scratchOf (now (aim .entry)) (now («aim_no_sliders» .entry)) (now (speed .entry)) (now (flashlight .entry))) (state (now (chart .entry)) [] (now (values .entry))) .answer)) (now (out .entry)) ⌝ }
+        (scratchOf (now (aim .entry)) (now («aim_no_sliders» .entry)) (now (speed .entry)) (now (flashlight .entry)))
+        (state (now (chart .entry)) [] (now (values .entry))) .answer)) (now (out .entry)) ⌝ }
     ensures leaves { λ _. ⌜ state (now (chart .exit)) [] (now (values .exit)) ≡ state (now (chart .entry)) [] (now (values .entry)) ⌝ }
 {
     match counts_into(
@@ -633,7 +646,8 @@ fn ratings_into(
         ≡ figureInto (kinds.ratings asked) cramped (scratchOf (now (aim .entry)) (now («aim_no_sliders» .entry)) (now (speed .entry)) (now (flashlight .entry)))
         (state (now (chart .entry)) [] (now (values .entry))) ⌝ }
     ensures scratch { λ _. ⌜ scratchOf (now (aim .exit)) (now («aim_no_sliders» .exit)) (now (speed .exit)) (now (flashlight .exit))
-        ≡ scratchInto (kinds.ratings asked) cramped (scratchOf (now (aim .entry)) (now («aim_no_sliders» .entry)) (now (speed .entry)) (now (flashlight .entry)))
+        ≡ scratchInto (kinds.ratings asked) cramped
+        (scratchOf (now (aim .entry)) (now («aim_no_sliders» .entry)) (now (speed .entry)) (now (flashlight .entry)))
         (state (now (chart .entry)) [] (now (values .entry))) ⌝ }
 {
     if cramped {
@@ -667,13 +681,18 @@ pub extern "C" fn difficulty_ratings(
     flashlight: &mut [f64],
     out: &mut [f64],
 ) -> u64
-    ensures answer { λ r. ⌜ r ≡ answerCode (figureInto (kinds.ratings (askedOf mods given (now (numbers .entry)))) (ratingsCramped (length (now (out .entry))) (length (now (numbers .entry))))
-        (scratchOf (now (aim .entry)) (now («aim_no_sliders» .entry)) (now (speed .entry)) (now (flashlight .entry))) (state (now (chart .entry)) [] (now (values .entry))) .answer) ⌝ }
+    ensures answer { λ r. ⌜ r ≡ answerCode (figureInto (kinds.ratings (askedOf mods given (now (numbers .entry))))
+        (ratingsCramped (length (now (out .entry))) (length (now (numbers .entry))))
+        (scratchOf (now (aim .entry)) (now («aim_no_sliders» .entry)) (now (speed .entry)) (now (flashlight .entry)))
+        (state (now (chart .entry)) [] (now (values .entry))) .answer) ⌝ }
     ensures scratch { λ _. ⌜ scratchOf (now (aim .exit)) (now («aim_no_sliders» .exit)) (now (speed .exit)) (now (flashlight .exit))
         ≡ scratchInto (kinds.ratings (askedOf mods given (now (numbers .entry)))) (ratingsCramped (length (now (out .entry))) (length (now (numbers .entry))))
-        (scratchOf (now (aim .entry)) (now («aim_no_sliders» .entry)) (now (speed .entry)) (now (flashlight .entry))) (state (now (chart .entry)) [] (now (values .entry))) ⌝ }
-    ensures out { λ _. ⌜ now (out .exit) ≡ put 0 (numbersOf (figureInto (kinds.ratings (askedOf mods given (now (numbers .entry)))) (ratingsCramped (length (now (out .entry))) (length (now (numbers .entry))))
-        (scratchOf (now (aim .entry)) (now («aim_no_sliders» .entry)) (now (speed .entry)) (now (flashlight .entry))) (state (now (chart .entry)) [] (now (values .entry))) .answer)) (now (out .entry)) ⌝ }
+        (scratchOf (now (aim .entry)) (now («aim_no_sliders» .entry)) (now (speed .entry)) (now (flashlight .entry)))
+        (state (now (chart .entry)) [] (now (values .entry))) ⌝ }
+    ensures out { λ _. ⌜ now (out .exit) ≡ put 0 (numbersOf (figureInto (kinds.ratings (askedOf mods given (now (numbers .entry))))
+        (ratingsCramped (length (now (out .entry))) (length (now (numbers .entry))))
+        (scratchOf (now (aim .entry)) (now («aim_no_sliders» .entry)) (now (speed .entry)) (now (flashlight .entry)))
+        (state (now (chart .entry)) [] (now (values .entry))) .answer)) (now (out .entry)) ⌝ }
     ensures leaves { λ _. ⌜ state (now (chart .exit)) [] (now (values .exit)) ≡ state (now (chart .entry)) [] (now (values .entry)) ⌝ }
     ensures numbers { λ _. ⌜ now (numbers .exit) ≡ now (numbers .entry) ⌝ }
 {

@@ -1,10 +1,13 @@
 -- `listing::put_totals` meets its contract: totals are carried out. Assumes nothing.
-use mathlib.Core.Path.{ap}
+use mathlib.Core.Path.{refl, sym, ap, _∙_}
 use Rattle.text.specs.Buffer.{same-text}
+use Rattle.chart_opening.specs.Conditions.{firstOf}
+use Rattle.calls.specs.Afresh.{totals}
+use Rattle.calls.specs.Conditions.{askedConditions}
 use Rattle.calls.specs.Calls.{Outcome}
 use Rattle.lines.specs.Lines.{totalsText}
-use Rattle.figures.specs.Answers.{scratchOf}
-use Rattle.listing.proofs.Calls.{totals-are, totals-carried-out}
+use Rattle.figures.specs.Answers.{scratchOf, totalsAnswer}
+use Rattle.listing.proofs.Calls.{figure-carried-out, totals-are}
 use borrow.Author.Needs.{needs}
 use Rattle.listing.proofs.put_totals.Statement.{statement}
 use Rattle.listing.proofs.put_totals.Tie as tie
@@ -40,9 +43,11 @@ same-length-5 : tie.Need-same-length-5
 same-length-5 c = search needs
 
 returns : tie.Need-returns
+unfolding askedConditions firstOf
 returns c =
     let a = c .before .before .before .before .before .before .before .before .before .before .before .before .before .before .before .before .before .before .before .before .before .before .before .before .before .before .before .args in
-    absurd (totals-carried-out (a .chart .now) (a .values .now) (c .before .before .before .before .before .before .before .before .before .before .before .before .before .before .before .before .before .before .before .before .before .before .before .before .before .before .before .pre .0) (scratchOf (a .aim .now) (a .aim-no-sliders .now) (a .speed .now) (a .flashlight .now)) (c .before .before .before .before .before .before .before .before .before .before .before .before .before .before .before .before .before .before .before .before .before .before .before .before .before .before .before .pre .1) _ _ (c .before .before .before .before .before .r .given .1) (ap (λ (x : Outcome). x .answer) (c .before .before .before .before .before .before .before .before .before .before .before .before .before .before .before .totals .ensures .0)))
+    let m = c .before .before .before .before .before .before .before .before .before .before .before .before .before .before .before .before .before .before .before .before .before .before .before .before .before .before .before .pre in
+    absurd (figure-carried-out (a .chart .now) (a .values .now) (m .0) (scratchOf (a .aim .now) (a .aim-no-sliders .now) (a .speed .now) (a .flashlight .now)) (m .1) totals refl _ (ap totalsAnswer (sym (c .before .before .before .before .before .r .given .1)) ∙ ap (λ (x : Outcome). x .answer) (c .before .before .before .before .before .before .before .before .before .before .before .before .before .before .before .totals .ensures .0)))
 
 same-length-6 : tie.Need-same-length-6
 same-length-6 c = search needs
@@ -62,7 +67,8 @@ same-length-10 c = search needs
 returns-2 : tie.Need-returns-2
 returns-2 c =
     let a = c .before .before .before .before .before .before .before .before .before .before .before .before .before .before .before .before .before .before .before .before .before .before .before .before .before .before .before .args in
-    same-text (ap totalsText (totals-are (a .chart .now) (a .values .now) (c .before .before .before .before .before .before .before .before .before .before .before .before .before .before .before .before .before .before .before .before .before .before .before .before .before .before .before .pre .0) (scratchOf (a .aim .now) (a .aim-no-sliders .now) (a .speed .now) (a .flashlight .now)) (c .before .before .before .before .before .before .before .before .before .before .before .before .before .before .before .before .before .before .before .before .before .before .before .before .before .before .before .pre .1) _ _ (c .before .before .before .before .before .t .given .1) (ap (λ (x : Outcome). x .answer) (c .before .before .before .before .before .before .before .before .before .before .before .before .before .before .before .totals .ensures .0)))) (c .before .before .put-totals .ensures)
+    let m = c .before .before .before .before .before .before .before .before .before .before .before .before .before .before .before .before .before .before .before .before .before .before .before .before .before .before .before .pre in
+    same-text (ap totalsText (totals-are (a .chart .now) (a .values .now) (m .0) (scratchOf (a .aim .now) (a .aim-no-sliders .now) (a .speed .now) (a .flashlight .now)) (m .1) _ (ap totalsAnswer (sym (c .before .before .before .before .before .t .given .1)) ∙ ap (λ (x : Outcome). x .answer) (c .before .before .before .before .before .before .before .before .before .before .before .before .before .before .before .totals .ensures .0)))) (c .before .before .put-totals .ensures)
 
 pub put-totals-spec : {M : Type 1} → statement M
 put-totals-spec =
