@@ -1,7 +1,7 @@
 // Opens a chart, drags one of its objects a thousand times, puts one in and takes two out, and prints what a station would show. client.c does the same.
 //     node client.mjs STATION.wasm CHART
 import { readFileSync } from 'node:fs';
-import { Chart, MOST, Refusal } from './station.mjs';
+import { Chart, MODS, MOST, Refusal } from './station.mjs';
 
 const [wasm, name] = process.argv.slice(2);
 if (!name) {
@@ -33,6 +33,18 @@ function show(place) {
         if (!(answer instanceof Refusal)) printNumbers(what, answer);
     }
     printFigure('totals', chart.totals());
+    printFigure('counts', chart.counts());
+    printFigure('prefix', chart.totalsTo(place));
+    const numbers = { approachRate: 9.5, overallDifficulty: 8, baseMultiplier: 1.14, startScale: 2 };
+    printFigure('ratings', chart.ratings(MODS.hidden | MODS.flashlight, numbers));
+}
+
+// The totals while playing, for all numbers of objects; then a list one entry short (7), one object too many (8) and a base multiplier that is not finite (10).
+function showPlaying() {
+    printFigure('prefixes', chart.totalsWhilePlaying());
+    printFigure('prefixes', chart.totalsWhilePlaying(chart.objects));
+    printFigure('prefix', chart.totalsTo(chart.objects + 1));
+    printFigure('ratings', chart.ratings(0, { approachRate: 9.5, overallDifficulty: 8, baseMultiplier: Infinity }));
 }
 
 // Moves the object to and fro. Every tenth step drops it outside the field (3), every seventeenth past the last place (8), every twenty-third is cut short (3 at
@@ -70,7 +82,9 @@ printAnswer('opening', opened);
 if (opened === null && objects > 1) {
     const place = Math.floor(objects / 2);
     show(place);
+    showPlaying();
     drag(place);
     show(place);
     putInAndTakeOut(place);
+    showPlaying();
 }

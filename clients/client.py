@@ -7,7 +7,7 @@ import struct
 import sys
 
 sys.dont_write_bytecode = True
-from station import MOST, Chart, Library, Refusal
+from station import FLASHLIGHT, HIDDEN, MOST, Chart, Library, Refusal
 
 
 def print_answer(what, answer):
@@ -30,6 +30,17 @@ def show(chart, place):
         if not isinstance(answer, Refusal):
             print_numbers(what, answer)
     print_figure("totals", chart.totals())
+    print_figure("counts", chart.counts())
+    print_figure("prefix", chart.totals_to(place))
+    print_figure("ratings", chart.ratings(HIDDEN | FLASHLIGHT, 9.5, 8, 1.14, start_scale=2))
+
+
+def show_playing(chart):
+    """The totals while playing, for all numbers of objects; then a list one entry short (7), one object too many (8) and a base multiplier that is not finite (10)."""
+    print_figure("prefixes", chart.totals_while_playing())
+    print_figure("prefixes", chart.totals_while_playing(chart.objects))
+    print_figure("prefix", chart.totals_to(chart.objects + 1))
+    print_figure("ratings", chart.ratings(0, 9.5, 8, float("inf")))
 
 
 def drag(chart, objects, place):
@@ -73,9 +84,11 @@ def main():
     if opened is None and objects > 1:
         place = objects // 2
         show(chart, place)
+        show_playing(chart)
         drag(chart, objects, place)
         show(chart, place)
         put_in_and_take_out(chart, objects, place)
+        show_playing(chart)
 
 
 if __name__ == "__main__":
