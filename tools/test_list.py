@@ -134,7 +134,8 @@ class Command(unittest.TestCase):
 
     def start(self, *words):
         kit = {**os.environ, "PATH": self.at("kit") + os.pathsep + os.environ["PATH"]}
-        return subprocess.Popen([sys.executable, self.at("tools", "list"), *words], env=kit, stdout=subprocess.PIPE, stderr=subprocess.PIPE, text=True, cwd=self.folder)
+        return subprocess.Popen([sys.executable, self.at("tools", "list"), *words], env=kit, stdout=subprocess.PIPE, stderr=subprocess.PIPE, text=True, cwd=self.folder,
+                                preexec_fn=lambda: signal.signal(signal.SIGINT, signal.SIG_DFL))  # which what runs in the background has ignored
 
     def listed(self, *words):
         p = self.start(*words or ("a.chart",))
