@@ -1,4 +1,5 @@
-// The counts of a chart: how many objects carry it. The sums run over strains in place order; the strains do not fit the scratch, so each sum works them out anew.
+// The counts of a chart: how many objects carry it. The sums run over strains in place order; the strains do not fit the scratch, so each sum works them
+// out anew.
 ghost use mathlib.Core.Path.{_≡_};
 ghost use Prim.Native.Nat.{_≤_};
 ghost use lib.ListN.{length, replicate};
