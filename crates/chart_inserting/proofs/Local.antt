@@ -123,7 +123,7 @@ module _ (s : List ℕ) (place : ℕ) (object : List ℕ)
           let g : fieldsOf new lay′ j ≡ fieldsOf s lay (j - 1) = ap (fieldsOf new lay′) e ∙ more .fields-later (j - 1) (omega (arith, q)) (omega (arith, q)) in
           simp (ne-eqb j place q, le-ltb j place (omega arith), g)
 
-  long-new : (clock : Float) → tooLong new lay′ clock ≡ longWith s lay clock place f
+  pub long-new : (clock : Float) → tooLong new lay′ clock ≡ longWith s lay clock place f
   unfolding tooLong longWith
   long-new clock = go (decLt 0 (lay .n))
     where

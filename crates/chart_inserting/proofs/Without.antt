@@ -99,7 +99,7 @@ module _ (s : List ℕ) (place : ℕ) (h : headerOk s ≡ true) (hp : place < la
       go (yes d) = rw (more .fields-before j d) at (sym (start-before s lay place j d))
       go (no d) = rw (later j (omega arith) m) (sym (start-later s lay place j (omega arith)))
 
-  long-new : (clock : Float) → tooLong new lay′ clock ≡ longWithout s lay clock place
+  pub long-new : (clock : Float) → tooLong new lay′ clock ≡ longWithout s lay clock place
   unfolding tooLong longWithout
   long-new clock = go (decLt 1 (lay′ .n))
     where

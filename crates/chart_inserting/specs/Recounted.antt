@@ -15,7 +15,7 @@ use Rattle.chart_fields.specs.Limits.{headerSize, mostObjects}
 use Rattle.chart_fields.specs.declared.Layout.{Layout}
 use Rattle.chart_opening.proofs.Header.{parts, header-by, offsets, offsets-by, few-by, holds}
 use Rattle.chart_opening.specs.Same.{settings-same}
-use Rattle.chart_opening.specs.Header.{layoutOf, headerOk, settingsOf, reservedOk, chartLength}
+use Rattle.chart_opening.specs.Header.{layoutOf, headerOk, settingsOf, formatOf, chartLength}
 use Rattle.chart_replacing.specs.Put.{part-same, same-inside}
 use Rattle.chart_inserting.specs.Insert.{wordBytes, putWord, nestedFor, pointsFor, lengthFor, layoutFor, recounted}
 use Rattle.chart_inserting.specs.OneMore.{countBytes, settingBytes}
@@ -160,9 +160,11 @@ module _ (s t : List ℕ) (c : countBytes t ≡ countBytes s) (b : settingBytes 
   pub settings-by : settingsOf t ≡ settingsOf s
   settings-by = settings-same (shift others-same 4 48 (omega arith)) (omega arith)
 
-  pub reserved-by : reservedOk t ≡ reservedOk s
-  unfolding reservedOk
-  reserved-by = cc (u32-same others-same (omega arith), u32-same (shift others-same 48 4 (omega arith)) (omega arith))
+  pub format-by : formatOf t ≡ formatOf s
+  format-by = u32-same others-same (omega arith)
+
+  pub flags-by : u32At t 76 ≡ u32At s 76
+  flags-by = u32-same (shift others-same 48 4 (omega arith)) (omega arith)
 
   pub first-by : u32At t 12 ≡ u32At s 12
   first-by = u32-same (shift counts-same 8 4 (omega arith)) (omega arith)
@@ -228,5 +230,6 @@ module _ (s p : List ℕ) (n : ℕ) (h : headerOk s ≡ true) (l : length p ≡ 
               ends = chart-length;
               fits = rw (chart-length, keeps-length lay n p long, l) fits;
             }));
-        reserved = reserved-by s new count-bytes setting-bytes ∙ P .reserved;
+        format = rw (format-by s new count-bytes setting-bytes) (P .format);
+        flags = rw (flags-by s new count-bytes setting-bytes) (P .flags);
       })

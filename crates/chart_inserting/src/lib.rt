@@ -65,7 +65,7 @@ fn start_with(chart: &[u8], lay: Layout, place: usize, f: Fields, j: usize) -> f
 }
 
 // Condition 6 of that chart.
-fn long_with(chart: &[u8], lay: Layout, clock: f64, place: usize, f: Fields) -> bool
+pub fn long_with(chart: &[u8], lay: Layout, clock: f64, place: usize, f: Fields) -> bool
     requires { ⌜ Holds (now chart) lay × (place ≤ lay .n) ⌝ }
     ensures { λ r. ⌜ r ≡ longWith (now (chart .entry)) lay clock place f ⌝ }
 {
@@ -117,7 +117,7 @@ pub fn check_insert(chart: &[u8], place: usize, object: &[u8], entries: usize) -
 }
 
 // Puts an accepted object in.
-fn put_in(chart: &mut [u8], place: usize, object: &[u8])
+pub fn put_in(chart: &mut [u8], place: usize, object: &[u8])
     requires { ⌜ Inserted (now chart) place (now object) ⌝ }
     ensures { λ _. ⌜ now (chart .exit) ≡ insertObject place (now (object .entry)) (now (chart .entry)) ⌝ }
 {
@@ -171,7 +171,7 @@ fn start_without(chart: &[u8], lay: Layout, place: usize, j: usize) -> f64
 }
 
 // Condition 6 of that chart.
-fn long_without(chart: &[u8], lay: Layout, clock: f64, place: usize) -> bool
+pub fn long_without(chart: &[u8], lay: Layout, clock: f64, place: usize) -> bool
     requires { ⌜ Holds (now chart) lay ⌝ }
     ensures { λ r. ⌜ r ≡ longWithout (now (chart .entry)) lay clock place ⌝ }
 {
@@ -222,7 +222,7 @@ pub fn check_remove(chart: &[u8], place: usize, entries: usize) -> Verdict
 }
 
 // Takes the object at an accepted place out.
-fn take_out(chart: &mut [u8], place: usize)
+pub fn take_out(chart: &mut [u8], place: usize)
     requires { ⌜ Removed (now chart) place ⌝ }
     ensures { λ _. ⌜ now (chart .exit) ≡ removeObject place (now (chart .entry)) ⌝ }
 {

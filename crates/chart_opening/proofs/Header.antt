@@ -3,7 +3,7 @@ use Prim.Native.Nat.{ℕ, _+_, _*_, _^_, _≤_, _<_}
 use mathlib.Core.Path.{_≡_, refl}
 use mathlib.Core.Bool.{Bool, true, false, cond, _&&_}
 use mathlib.Core.List.{List}
-use lib.Dec.{eqb}
+use lib.Dec.{leb, eqb}
 use lib.ListN.{length}
 use native.Mathlib.Nat.{mul-le-mul}
 use native.Mathlib.Omega.{arith}
@@ -12,7 +12,7 @@ use Rattle.num_floats.specs.Fields.{u32At}
 use Rattle.chart_fields.specs.Limits.{headerSize, objectSize, statedSize, pointSize, mostObjects, mostEntries}
 use Rattle.chart_fields.specs.Objects.{Holds}
 use Rattle.chart_fields.specs.declared.Layout.{Layout}
-use Rattle.chart_opening.specs.Header.{sizeFor, formatOf, layoutOf, countsOk, offsetsOk, reservedOk, headerOk, chartLength, layoutEnd}
+use Rattle.chart_opening.specs.Header.{sizeFor, formatOf, layoutOf, countsOk, offsetsOk, frameOk, flagsOk, headerOk, chartLength, layoutEnd}
 
 pub both : (a b : Bool) → (a && b) ≡ true → (a ≡ true) × (b ≡ true)
 both true b e = (refl, e)
@@ -61,19 +61,34 @@ pub record Parts (s : List ℕ) : Type 0 where
   pub long : headerSize ≤ length s
   pub counts : countsOk (layoutOf s) ≡ true
   pub offsets : offsetsOk s (layoutOf s) ≡ true
-  pub reserved : reservedOk s ≡ true
+  pub format : leb (formatOf s) 1 ≡ true
+  pub flags : flagsOk (u32At s 76) ≡ true
+
+-- of the header but for its flags
+pub record Framed (s : List ℕ) : Type 0 where
+  pub long : headerSize ≤ length s
+  pub counts : countsOk (layoutOf s) ≡ true
+  pub offsets : offsetsOk s (layoutOf s) ≡ true
+  pub format : leb (formatOf s) 1 ≡ true
+
+pub framed : (s : List ℕ) → frameOk s ≡ true → Framed s
+unfolding frameOk
+framed s e =
+    let abc = both _ _ e in
+    let ab = both _ _ (abc .0) in
+    let a = both _ _ (ab .0) in
+    record { long = leb-true _ _ (a .0); counts = a .1; offsets = ab .1; format = abc .1 }
 
 pub parts : (s : List ℕ) → headerOk s ≡ true → Parts s
 unfolding headerOk
 parts s e =
-    let abc = both _ _ e in
-    let ab = both _ _ (abc .0) in
-    let a = both _ _ (ab .0) in
-    record { long = leb-true _ _ (a .0); counts = a .1; offsets = ab .1; reserved = abc .1 }
+    let ff = both _ _ e in
+    let f = framed s (ff .0) in
+    record { long = f .long; counts = f .counts; offsets = f .offsets; format = f .format; flags = ff .1 }
 
 pub header-by : (s : List ℕ) → Parts s → headerOk s ≡ true
-unfolding headerOk
-header-by s p = simp (le-leb headerSize (length s) (p .long), p .counts, p .offsets, p .reserved)
+unfolding headerOk frameOk
+header-by s p = simp (le-leb headerSize (length s) (p .long), p .counts, p .offsets, p .format, p .flags)
 
 -- what the offsets and the length say
 pub record Offsets (s : List ℕ) (lay : Layout) : Type 0 where
@@ -109,10 +124,9 @@ offsets-by s lay o =
       le-leb (chartLength s) (length s) (o .fits),
     )
 
-pub holds : (s : List ℕ) → headerOk s ≡ true → Holds s (layoutOf s)
+pub holds-framed : (s : List ℕ) → Framed s → Holds s (layoutOf s)
 unfolding layoutOf
-holds s e =
-    let p = parts s e in
+holds-framed s p =
     let f = few (layoutOf s) (p .counts) in
     let o = offsets s (layoutOf s) (p .offsets) in
     record {
@@ -125,3 +139,7 @@ holds s e =
       nested-in = omega arith;
       points-in = omega (arith, o .ends, o .fits);
     }
+
+pub holds : (s : List ℕ) → headerOk s ≡ true → Holds s (layoutOf s)
+unfolding headerOk
+holds s e = holds-framed s (framed s (both _ _ e .0))

@@ -10,6 +10,7 @@ use Rattle.chart_fields.specs.Objects.{badFields, falls}
 use Rattle.chart_fields.specs.declared.Layout.{Layout}
 use Rattle.chart_entries.specs.Entries.{badEntries}
 use Rattle.chart_opening.specs.Header.{layoutOf, headerOk, settingsOf, settingsOk, tooLong}
+use Rattle.chart_opening.specs.declared.Settings.{Settings}
 use Rattle.chart_opening.specs.declared.Refusal.{Refusal}
 use Rattle.chart_opening.specs.declared.Refusal.the-variants.{Header, Setting, Object, Entries, Order, Length, Table, Place, Room, NotFinite}
 use Rattle.chart_opening.specs.declared.Verdict.{Verdict}
@@ -90,6 +91,11 @@ Opens s = firstOf (chartConditions s) ≡ Accepted
 -- "7 a lent table with fewer than N entries", where `entries` is the number of entries of the shortest lent table
 abbrev pub tooFew : ℕ → ℕ → Verdict
 tooFew entries n = refuseIf (ltb entries n) Table
+
+-- conditions 2 to 7 under given settings
+unfoldable pub underConditions : List ℕ → Settings → ℕ → List Verdict
+underConditions s t entries =
+    refuseIf (not (settingsOk t)) Setting ∷ bodyConditions s (layoutOf s) (t .«clock_rate») ++ (tooFew entries (layoutOf s .n) ∷ [])
 
 -- conditions 1 to 7
 unfoldable pub openConditions : List ℕ → ℕ → List Verdict

@@ -51,13 +51,17 @@ offsetsOk s lay =
     eqb (u32At s 12) headerSize && eqb (u32At s 16) (lay .«nested_at») && eqb (u32At s 20) (lay .«points_at»)
     && eqb (chartLength s) (layoutEnd lay) && leb (chartLength s) (length s)
 
--- the word at 28 is 0 or 1 (order 4); "u32 at 76 flags: bit 0 hidden, bit 1 autopilot, others zero"
-unfoldable pub reservedOk : List ℕ → Bool
-reservedOk s = leb (formatOf s) 1 && ltb (u32At s 76) 4
+-- all of it but the flags: there are 80 bytes, counts and offsets are right, and the word at 28 is 0 or 1 (order 4)
+unfoldable pub frameOk : List ℕ → Bool
+frameOk s = leb headerSize (length s) && countsOk (layoutOf s) && offsetsOk s (layoutOf s) && leb (formatOf s) 1
+
+-- "u32 at 76 flags: bit 0 hidden, bit 1 autopilot, others zero"
+unfoldable pub flagsOk : ℕ → Bool
+flagsOk flags = ltb flags 4
 
 -- "1 header, length, counts, offsets or reserved bits wrong": this is their being right
 unfoldable pub headerOk : List ℕ → Bool
-headerOk s = leb headerSize (length s) && countsOk (layoutOf s) && offsetsOk s (layoutOf s) && reservedOk s
+headerOk s = frameOk s && flagsOk (u32At s 76)
 
 -- "clock rate, radius, hit window, preempt, fade-in", f64; f32 factor; flags "bit 0 hidden, bit 1 autopilot"
 unfoldable pub settingsAt : List ℕ → ℕ → Settings

@@ -6,8 +6,8 @@ ghost use lib.ListN.{length};
 ghost use Rattle.chart_fields.specs.Limits.{headerSize, pointSize};
 ghost use Rattle.chart_fields.specs.Objects.{Holds};
 ghost use Rattle.chart_opening.specs.Limits.{settingsSize};
-ghost use Rattle.chart_opening.specs.Header.{sizeFor, layoutOf, countsOk, offsetsOk, reservedOk, headerOk, settingsAt, settingsOk, farApart, tooLong};
-ghost use Rattle.chart_opening.specs.Conditions.{refusalNumber, refusalPlace, firstOf, bodyConditions, openVerdict};
+ghost use Rattle.chart_opening.specs.Header.{sizeFor, layoutOf, countsOk, offsetsOk, frameOk, flagsOk, headerOk, settingsAt, settingsOk, farApart, tooLong};
+ghost use Rattle.chart_opening.specs.Conditions.{refusalNumber, refusalPlace, firstOf, bodyConditions, underConditions, openVerdict};
 use chart_fields::Layout;
 
 // A chart's settings, the flags taken apart.
@@ -129,17 +129,9 @@ fn offsets_ok(s: &[u8], lay: Layout) -> bool
         & (num_floats::count_at(s, 24) <= s.len())
 }
 
-// Whether the word at 28 is one of the two, and the flags' reserved bits are 0.
-fn reserved_ok(s: &[u8]) -> bool
-    requires { ⌜ headerSize ≤ length (now s) ⌝ }
-    ensures { λ r. ⌜ r ≡ reservedOk (now (s .entry)) ⌝ }
-{
-    (num_floats::u32_at(s, 28) <= 1) & (num_floats::u32_at(s, 76) < 4)
-}
-
-// Whether the header is right: condition 1 is that it is not.
-pub fn header_ok(s: &[u8]) -> bool
-    ensures { λ r. ⌜ r ≡ headerOk (now (s .entry)) ⌝ }
+// Whether the header is right but for its flags.
+pub fn frame_ok(s: &[u8]) -> bool
+    ensures { λ r. ⌜ r ≡ frameOk (now (s .entry)) ⌝ }
 {
     if s.len() < chart_fields::HEADER_SIZE {
         return false;
@@ -148,7 +140,24 @@ pub fn header_ok(s: &[u8]) -> bool
     if !counts_ok(lay) {
         return false;
     }
-    offsets_ok(s, lay) & reserved_ok(s)
+    offsets_ok(s, lay) & (num_floats::u32_at(s, 28) <= 1)
+}
+
+// Whether the flags' reserved bits are 0.
+pub fn flags_ok(flags: u32) -> bool
+    ensures { λ r. ⌜ r ≡ flagsOk flags ⌝ }
+{
+    flags < 4
+}
+
+// Whether the header is right: condition 1 is that it is not.
+pub fn header_ok(s: &[u8]) -> bool
+    ensures { λ r. ⌜ r ≡ headerOk (now (s .entry)) ⌝ }
+{
+    if !frame_ok(s) {
+        return false;
+    }
+    flags_ok(num_floats::u32_at(s, 76))
 }
 
 // The settings at an offset.
@@ -189,7 +198,7 @@ pub fn far_apart(last: f64, first: f64, clock: f64) -> bool
 }
 
 // Condition 6.
-fn too_long(chart: &[u8], lay: Layout, clock: f64) -> bool
+pub fn too_long(chart: &[u8], lay: Layout, clock: f64) -> bool
     requires { ⌜ Holds (now chart) lay ⌝ }
     ensures { λ r. ⌜ r ≡ tooLong (now (chart .entry)) lay clock ⌝ }
 {
@@ -226,19 +235,16 @@ pub fn check_body(chart: &[u8], lay: Layout, clock: f64) -> Verdict
     Verdict::Accepted
 }
 
-// Conditions 1 to 7; entries is the number of entries of the shortest table.
-pub fn check(chart: &[u8], entries: usize) -> Verdict
-    ensures { λ r. ⌜ r ≡ openVerdict (now (chart .entry)) entries ⌝ }
+// Conditions 2 to 7 under given settings, of a chart whose header is right; entries is the number of entries of the shortest table.
+pub fn check_under(chart: &[u8], set: Settings, entries: usize) -> Verdict
+    requires { ⌜ (headerSize ≤ length (now chart)) × Holds (now chart) (layoutOf (now chart)) ⌝ }
+    ensures { λ r. ⌜ r ≡ firstOf (underConditions (now (chart .entry)) set entries) ⌝ }
 {
-    if !header_ok(chart) {
-        return Verdict::Refused(Refusal::Header);
-    }
     let lay = layout_of(chart);
-    let settings = settings_at(chart, 32);
-    if !settings_ok(settings) {
+    if !settings_ok(set) {
         return Verdict::Refused(Refusal::Setting);
     }
-    match check_body(chart, lay, settings.clock_rate) {
+    match check_body(chart, lay, set.clock_rate) {
         Verdict::Refused(r) => Verdict::Refused(r),
         Verdict::Accepted => {
             if entries < lay.n {
@@ -248,4 +254,14 @@ pub fn check(chart: &[u8], entries: usize) -> Verdict
             }
         }
     }
+}
+
+// Conditions 1 to 7.
+pub fn check(chart: &[u8], entries: usize) -> Verdict
+    ensures { λ r. ⌜ r ≡ openVerdict (now (chart .entry)) entries ⌝ }
+{
+    if !header_ok(chart) {
+        return Verdict::Refused(Refusal::Header);
+    }
+    check_under(chart, settings_at(chart, 32), entries)
 }

@@ -96,7 +96,7 @@ module _ (s : List ℕ) (place : ℕ) (object : List ℕ)
       go (yes q) = simp (q, eq-eqb place place refl, here)
       go (no q) = simp (ne-eqb j place q, elsewhere j q)
 
-  long-new : (clock : Float) → tooLong (putObject place object s) lay clock ≡ newTooLong s lay clock place f
+  pub long-new : (clock : Float) → tooLong (putObject place object s) lay clock ≡ newTooLong s lay clock place f
   unfolding tooLong newTooLong
   long-new clock = cc (start-new (lay .n - 1), start-new 1)
 

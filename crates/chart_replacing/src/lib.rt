@@ -95,7 +95,7 @@ fn new_start(chart: &[u8], lay: Layout, place: usize, f: Fields, j: usize) -> f6
 }
 
 // Condition 6 of the new chart.
-fn new_too_long(chart: &[u8], lay: Layout, clock: f64, place: usize, f: Fields) -> bool
+pub fn new_too_long(chart: &[u8], lay: Layout, clock: f64, place: usize, f: Fields) -> bool
     requires { ⌜ Holds (now chart) lay ⌝ }
     ensures { λ r. ⌜ r ≡ newTooLong (now (chart .entry)) lay clock place f ⌝ }
 {
@@ -145,7 +145,7 @@ pub fn check_replace(chart: &[u8], place: usize, object: &[u8], entries: usize) 
 }
 
 // Writes an accepted object to its place.
-fn put_object(chart: &mut [u8], place: usize, object: &[u8])
+pub fn put_object(chart: &mut [u8], place: usize, object: &[u8])
     requires { ⌜ Taken (now chart) place (now object) ⌝ }
     ensures { λ _. ⌜ now (chart .exit) ≡ putObject place (now (object .entry)) (now (chart .entry)) ⌝ }
 {

@@ -18,7 +18,7 @@ use Rattle.chart_fields.specs.Search.{firstBelow, firstFrom}
 use Rattle.chart_entries.specs.Entries.{badEntries, lengthOk, nestedAt}
 use Rattle.osu_object.specs.Base.{baseOf, repeatsOf}
 use Rattle.osu_object.specs.Osu.{countBelow, endPos, kindOf, lastBelow, listFrom, objectOf, osuObject, repeatCount, runsOf}
-use Rattle.chart_opening.specs.Header.{countsOk, headerOk, layoutOf, offsetsOk, reservedOk, settingsAt, settingsOk, sizeFor, tooLong}
+use Rattle.chart_opening.specs.Header.{countsOk, flagsOk, frameOk, headerOk, layoutOf, offsetsOk, settingsAt, settingsOk, sizeFor, tooLong}
 use Rattle.osu_difficulty_object.specs.Reading.{doubletapness, fadeIn, fadeOut}
 use Rattle.osu_difficulty_object.specs.Record.{angleTo, endCursor, jumpDist, jumpFrom, jumpOf, lastCursor, minJumpDist, minJumpTime, newRecord, placedOf, plainOf, recordOf as objectRecordOf}
 use Rattle.num_util.specs.Difficulty.{logistic, millisecondsToBpm, reverseLerp, smootherstep}
@@ -76,5 +76,5 @@ printed =
 
 -- the definitions named here are those that the computation runs through
 pub two-circles : listText twoCircles ≡ printed
-unfolding little add climb div eq le lt mul ne neg odd ofBits ofFields ofInt rem round size span sub sum toBits toSigned absOf clampOf maxOf minOf f32At f64At u32At u64At rootDrop rootKept rootOf ceilOf truncOf logBits logOf expOf log10Of powerOf powerOther twoOf twoRoot twoRound lengthOf badFields falls fieldsAt fieldsOf fieldsOk statedLength firstBelow firstFrom badEntries lengthOk nestedAt baseOf repeatsOf countBelow endPos kindOf lastBelow listFrom objectOf osuObject repeatCount runsOf countsOk headerOk layoutOf offsetsOk reservedOk settingsAt settingsOk sizeFor tooLong doubletapness fadeIn fadeOut angleTo endCursor jumpDist jumpFrom jumpOf lastCursor minJumpDist minJumpTime newRecord placedOf plainOf objectRecordOf logistic millisecondsToBpm reverseLerp smootherstep nearlyEqual aimOf allParts anglesOf distBonus speedBonus speedOf strainTime speedBy cellOf rhythmBy runOf startFrom startOf rhythmValueOf factorOf fasterTwice rhythmFreshState freshWalk lastRatio progressedOf addedOf evaluatorOf flashlightOf flashlightFreshState hiddenOf opacityBonus repeatedOf sharedOf sliderBonus smallDistNerf stepOf turnsOf flashlightValueOf valuesOf insert sortDesc base closeOne closeTo column current elapsed initialStrain joined multiplier peaksTo reached strainAt strainDecay strainNext strains total totalTo walk clamped difficultyOf difficultyValue lerp positives reduced reduction sumFrom weighted countTopWeightedSliders countTopWeightedStrains getDifficultSliders maxFrom relevantNoteCount share sliderWeight topStrain totalKey totalMax totalMaxFrom weight counts countsBy strainsFrom sliderAt decimalText decimalUpTo digit f64Text hexText countNumbers countText countsText numberText numbersText placeText refusalText skillsText totalsText deltaAt startAt chartRecord countsOf totalsOf ifAccepted freshValues bodyConditions chartConditions firstOf afreshText beyondText chartText listText metText openedText placesText
+unfolding little add climb div eq le lt mul ne neg odd ofBits ofFields ofInt rem round size span sub sum toBits toSigned absOf clampOf maxOf minOf f32At f64At u32At u64At rootDrop rootKept rootOf ceilOf truncOf logBits logOf expOf log10Of powerOf powerOther twoOf twoRoot twoRound lengthOf badFields falls fieldsAt fieldsOf fieldsOk statedLength firstBelow firstFrom badEntries lengthOk nestedAt baseOf repeatsOf countBelow endPos kindOf lastBelow listFrom objectOf osuObject repeatCount runsOf countsOk flagsOk frameOk headerOk layoutOf offsetsOk settingsAt settingsOk sizeFor tooLong doubletapness fadeIn fadeOut angleTo endCursor jumpDist jumpFrom jumpOf lastCursor minJumpDist minJumpTime newRecord placedOf plainOf objectRecordOf logistic millisecondsToBpm reverseLerp smootherstep nearlyEqual aimOf allParts anglesOf distBonus speedBonus speedOf strainTime speedBy cellOf rhythmBy runOf startFrom startOf rhythmValueOf factorOf fasterTwice rhythmFreshState freshWalk lastRatio progressedOf addedOf evaluatorOf flashlightOf flashlightFreshState hiddenOf opacityBonus repeatedOf sharedOf sliderBonus smallDistNerf stepOf turnsOf flashlightValueOf valuesOf insert sortDesc base closeOne closeTo column current elapsed initialStrain joined multiplier peaksTo reached strainAt strainDecay strainNext strains total totalTo walk clamped difficultyOf difficultyValue lerp positives reduced reduction sumFrom weighted countTopWeightedSliders countTopWeightedStrains getDifficultSliders maxFrom relevantNoteCount share sliderWeight topStrain totalKey totalMax totalMaxFrom weight counts countsBy strainsFrom sliderAt decimalText decimalUpTo digit f64Text hexText countNumbers countText countsText numberText numbersText placeText refusalText skillsText totalsText deltaAt startAt chartRecord countsOf totalsOf ifAccepted freshValues bodyConditions chartConditions firstOf afreshText beyondText chartText listText metText openedText placesText
 two-circles = refl

@@ -1,63 +1,39 @@
--- `chart_opening::header_ok` meets its contract. Assumes nothing.
-use mathlib.Core.Path.{sym, _∙_, ap}
+use mathlib.Core.Path.{sym, _∙_}
 use native.Mathlib.Omega.{arith}
-use lib.ListN.{length}
-use denote.Ref.{now}
-use borrow.Author.Tests.{le-leb, lt-leb, not-true, not-false}
-use Rattle.chart_opening.specs.Header.{headerOk, countsOk}
-use Rattle.chart_opening.proofs.Header.{ends-fit}
+use borrow.Author.Tests.{not-true, not-false}
+use Rattle.chart_opening.specs.Header.{headerOk}
+use Rattle.chart_opening.proofs.Header.{framed}
 use borrow.Author.Needs.{needs}
 use Rattle.chart_opening.proofs.header_ok.Statement.{statement}
 use Rattle.chart_opening.proofs.header_ok.Tie as tie
+use Rattle.chart_opening.proofs.header_ok.Reads as reads
+use Rattle.chart_opening.proofs.header_ok.Lts as lts
+use Rattle.chart_opening.proofs.flags_ok.Reads as flags-ok-reads
+use Rattle.chart_opening.proofs.frame_ok.Reads as frame-ok-reads
+use Rattle.num_floats.proofs.u32_at.Reads as u32-at-reads
 
+-- src/lib.rt:157:9
+frame-ok-requires : tie.Need-frame-ok-requires
+frame-ok-requires c κs = search needs
+
+-- src/lib.rt:158:9
 returns : tie.Need-returns
 unfolding headerOk
-returns c = simp (lt-leb 80 (length (now (c .before .before .args .s))) (omega arith))
+returns c = simp (sym (c .before .frame-ok .ensures) ∙ not-true _ (c .if1 .taken))
 
-layout-of-requires : tie.Need-layout-of-requires
-layout-of-requires c κs = search needs
+-- src/lib.rt:160:14
+u32-at-requires : tie.Need-u32-at-requires
+u32-at-requires c κs = let l = framed _ (sym (c .before .frame-ok .ensures) ∙ not-false _ (c .if1 .left)) .long in omega (arith, l)
 
-counts-ok-requires : tie.Need-counts-ok-requires
-counts-ok-requires c κs = search needs
+-- src/lib.rt:160:5
+flags-ok-requires : tie.Need-flags-ok-requires
+flags-ok-requires c κs = search needs
 
+-- src/lib.rt:154:1
 returns-2 : tie.Need-returns-2
 unfolding headerOk
-returns-2 c =
-    simp (
-      le-leb 80 (length (now (c .before .before .before .before .before .args .s))) (omega arith),
-      sym (c .before .before .layout-of .ensures),
-      sym (c .before .counts-ok .ensures) ∙ not-true _ (c .if2 .taken),
-    )
-
-offsets-ok-requires : tie.Need-offsets-ok-requires
-offsets-ok-requires c κs = (
-  omega arith,
-  rw (c .before .before .layout-of .ensures)
-      (ends-fit _ (ap countsOk (sym (c .before .before .layout-of .ensures)) ∙ sym (c .before .counts-ok .ensures) ∙ not-false _ (c .if2 .left))),
-)
-
-reserved-ok-requires : tie.Need-reserved-ok-requires
-reserved-ok-requires c κs = search needs
-
-returns-3 : tie.Need-returns-3
-unfolding headerOk
-returns-3 c =
-    simp (
-      le-leb 80 (length (now (c .before .before .before .before .before .before .before .args .s))) (omega arith),
-      sym (c .before .before .before .before .layout-of .ensures),
-      sym (c .before .before .before .counts-ok .ensures) ∙ not-false _ (c .before .before .if2 .left),
-      c .before .offsets-ok .ensures,
-      c .reserved-ok .ensures,
-    )
+returns-2 c = simp (sym (c .before .before .before .frame-ok .ensures) ∙ not-false _ (c .before .before .if1 .left), c .flags-ok .ensures, c .before .u32-at .ensures)
 
 pub header-ok-spec : {M : Type 1} → statement M
 header-ok-spec =
-    tie.close
-    (tie.spec
-    returns
-    layout-of-requires
-    counts-ok-requires
-    returns-2
-    offsets-ok-requires
-    reserved-ok-requires
-    returns-3)
+    tie.close (tie.spec frame-ok-requires returns u32-at-requires flags-ok-requires returns-2)

@@ -1,0 +1,4 @@
+pub mod Second
+pub mod Under
+pub mod Commutes
+pub mod Verdicts
