@@ -403,7 +403,7 @@ module _ (k : ℕ) (t u : Borrowed) (own-t : IsOwn t) (own-u : IsOwn u) (st : St
       (omega (arith, n, r .records)) (omega (arith, n, r .values)) b
 
 -- a call that is carried out on the opening's tables
-as-own : (a : Operation) (t u : Borrowed) (st : State) → OwnTables a t u → let c : Call = record { operation = a; records = t; values = u } in
+pub as-own : (a : Operation) (t u : Borrowed) (st : State) → OwnTables a t u → let c : Call = record { operation = a; records = t; values = u } in
     verdictIn a (lent c st) ≡ Accepted → (execute a (lent c st) .answer ≡ execute a st .answer) × (stateAfter c (execute a (lent c st) .leaves) st ≡ execute a st .leaves)
 unfolding OwnTables verdictIn execute lent
 as-own (replace k o) t u st own e =
@@ -471,7 +471,7 @@ shorter (readValues k) t u st own = tt
 shorter (readDetail d k) t u st own = tt
 shorter (figure f l) t u st own = tt
 
-verdict-lent : (c : Call) (st : State) (r v : ℕ) → length (st .records) ≡ r → length (st .values) ≡ v
+pub verdict-lent : (c : Call) (st : State) (r v : ℕ) → length (st .records) ≡ r → length (st .values) ≡ v
     → verdictIn (c .operation) (lent c st) ≡ refusal (c .operation) (lengthOf (c .records) r) (lengthOf (c .values) v) (st .chart)
 unfolding verdictIn lent
 verdict-lent c st r v e f = λ i. refusal (c .operation) (length-lent (c .records) (st .records) r e i) (length-lent (c .values) (st .values) v f i) (st .chart)

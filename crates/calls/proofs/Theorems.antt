@@ -23,7 +23,7 @@ use Rattle.calls.specs.Tables.{recordWidth, valueWidth, Borrowed}
 use Rattle.calls.specs.Afresh.{count, object, freshRow, freshValues}
 use Rattle.calls.specs.Conditions.{replace, opening}
 use Rattle.calls.specs.Calls.{Answer, State, opened, openAnswer, Call, perform, Question, question, plain}
-use Rattle.calls.specs.Statement.{Outside, Fresh, settingsIn, Admissible, Kept, edits, Sound, Frame, unplaced, fieldsIn, Agree, Alike, Claims}
+use Rattle.calls.specs.Statement.{Outside, Fresh, settingsIn, Admissible, Kept, edits, Shown, Sound, Frame, unplaced, fieldsIn, Agree, Alike, Claims}
 use Rattle.calls.proofs.Refusals.{opening-met, opening-none, figure-accepted}
 use Rattle.calls.proofs.Places.{opening-placed, replace-placed, insert-placed, remove-placed, record-placed, values-placed, detail-placed, figure-placed, refusal-told}
 use Rattle.calls.proofs.Limits.{opening-limit, place-limit}
@@ -83,6 +83,23 @@ opened-chart : (st : State) → opened st .chart ≡ st .chart
 unfolding opened
 opened-chart st = refl
 
+-- what holds at any time after the opening is all that is shown
+pub shown : (st₀ st : State) → Inv st₀ st → Shown st
+shown st₀ st i =
+    record {
+      opens = λ r v x y. opening-none r v (st .chart) (i .opens) x y;
+      fresh = i .fresh;
+      reads = λ j p q. read-back (settingsIn st) (st .chart) (st .records) j (i .fresh .records j p q);
+      strains = λ j p q. strain-from (settingsIn st) st j q (i .fresh);
+      details = λ d j p q. detail-from d (settingsIn st) st j p q (i .fresh);
+      figures = λ f a. figure-from f (settingsIn st) st a (i .fresh);
+      rhythm = λ j p q. rhythm-held (settingsIn st) st j p q (i .fresh);
+      aim = λ j p q sliders. aim-held (settingsIn st) st j p q (i .fresh) sliders;
+      again = λ rs vs e' j p q.
+          let copy : State = record { chart = st .chart; records = rs; values = vs } in
+          (i .fresh .records j p q ∙ sym (opened-records copy e' j p q), i .fresh .values j p q ∙ sym (opened-values copy e' j p q));
+    }
+
 module _ (st₀ : State) (e : openAnswer st₀ ≡ Accepted) where
   start : Inv st₀ (opened st₀)
   unfolding openAnswer
@@ -107,17 +124,7 @@ module _ (st₀ : State) (e : openAnswer st₀ ≡ Accepted) where
           chart = together .1 .0;
           kept = subst₂ (λ (x : List Answer) (y : List ℕ). Kept (st₀ .chart) (edits cs x) y) (sym (together .0)) (sym (together .1 .0))
               (plain-kept (length (st₀ .records)) (length (st₀ .values)) cs (st₀ .chart));
-          opens = λ r v x y. opening-none r v (st .chart) (i .opens) x y;
-          fresh = i .fresh;
-          reads = λ j p q. read-back (settingsIn st) (st .chart) (st .records) j (i .fresh .records j p q);
-          strains = λ j p q. strain-from (settingsIn st) st j q (i .fresh);
-          details = λ d j p q. detail-from d (settingsIn st) st j p q (i .fresh);
-          figures = λ f a. figure-from f (settingsIn st) st a (i .fresh);
-          rhythm = λ j p q. rhythm-held (settingsIn st) st j p q (i .fresh);
-          aim = λ j p q sliders. aim-held (settingsIn st) st j p q (i .fresh) sliders;
-          again = λ rs vs e' j p q.
-              let copy : State = record { chart = st .chart; records = rs; values = vs } in
-              (i .fresh .records j p q ∙ sym (opened-records copy e' j p q), i .fresh .values j p q ∙ sym (opened-values copy e' j p q));
+          shown = shown st₀ st i;
           outside = λ n h m. outside-trans (outside-later n h (opened-outside st₀ e)) (outside-list st₀ n cs (opened st₀) start t m);
         }
 
@@ -132,8 +139,8 @@ frame-in-list st₀ e cs ds k o t u h =
     let c : Call = record { operation = replace k o; records = t; values = u } in
     let x : State = after perform cs (opened st₀) in (
       subst⁻¹ (Frame k x) (after-last perform Admissible cs c (opened st₀)) (frame k o t u x),
-      list st₀ e cs (throughout-front perform Admissible cs (c ∷ ds) (opened st₀) h) .fresh,
-      list st₀ e (cs ++ (c ∷ [])) (throughout-next perform Admissible cs c ds (opened st₀) h) .fresh,
+      list st₀ e cs (throughout-front perform Admissible cs (c ∷ ds) (opened st₀) h) .shown .fresh,
+      list st₀ e (cs ++ (c ∷ [])) (throughout-next perform Admissible cs c ds (opened st₀) h) .shown .fresh,
     )
 
 -- ---- Likeness

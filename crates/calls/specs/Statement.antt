@@ -136,14 +136,8 @@ valueFound (rhythmIs x n) = x
 unfoldable pub Admissible : State → Call → Type 0
 Admissible st c = verdictIn (c .operation) (lent c st) ≡ Accepted → OwnTables (c .operation) (c .records) (c .values)
 
--- for one opening, of a chart into two tables (st₀), and one list of calls, which left the state st and answered xs
-pub record Sound (st₀ : State) (cs : List Call) (st : State) (xs : List Answer) : Type 0 where
-  -- every answer is the plain chart's
-  pub same : xs ≡ answers plain (map (question (length (st₀ .records)) (length (st₀ .values))) cs) (st₀ .chart)
-  -- the chart is the plain chart's
-  pub chart : st .chart ≡ after plain (map (question (length (st₀ .records)) (length (st₀ .values))) cs) (st₀ .chart)
-  -- the objects are the opened chart's with the accepted edits applied in turn; settings, nested entries and points stand
-  pub kept : Kept (st₀ .chart) (edits cs xs) (st .chart)
+-- the chart opens, and all that the tables tell equals what is worked out from it afresh
+pub record Shown (st : State) : Type 0 where
   -- the chart would still open, into any tables that are long enough
   pub opens : (r v : ℕ) → recordWidth * count (st .chart) ≤ r → valueWidth * count (st .chart) ≤ v → opening r v (st .chart) ≡ Accepted
   -- records, values, strains, details and figures equal those worked out afresh; a record is what reading answers
@@ -167,6 +161,17 @@ pub record Sound (st₀ : State) (cs : List Call) (st : State) (xs : List Answer
       openAnswer copy ≡ Accepted → (j : ℕ) → 1 ≤ j → j < count (st .chart)
       → (row recordWidth (st .records) j ≡ row recordWidth (opened copy .records) j)
       × (row valueWidth (st .values) j ≡ row valueWidth (opened copy .values) j)
+
+-- for one opening, of a chart into two tables (st₀), and one list of calls, which left the state st and answered xs
+pub record Sound (st₀ : State) (cs : List Call) (st : State) (xs : List Answer) : Type 0 where
+  -- every answer is the plain chart's
+  pub same : xs ≡ answers plain (map (question (length (st₀ .records)) (length (st₀ .values))) cs) (st₀ .chart)
+  -- the chart is the plain chart's
+  pub chart : st .chart ≡ after plain (map (question (length (st₀ .records)) (length (st₀ .values))) cs) (st₀ .chart)
+  -- the objects are the opened chart's with the accepted edits applied in turn; settings, nested entries and points stand
+  pub kept : Kept (st₀ .chart) (edits cs xs) (st .chart)
+  -- what the station shows of it is what is worked out afresh
+  pub shown : Shown st
   -- entries 0, and those behind every N on the way, hold what they held before the opening
   pub outside : (n : ℕ) → count (st₀ .chart) ≤ n → Throughout perform (λ s c. count (perform c s .1 .chart) ≤ n) cs (opened st₀) → Outside n st₀ st
 

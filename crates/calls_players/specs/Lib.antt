@@ -1,0 +1,4 @@
+pub mod Second
+pub mod Both
+pub mod Same
+pub mod Statement
