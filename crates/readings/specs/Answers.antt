@@ -3,7 +3,7 @@ use mathlib.Core.Path.{_≡_}
 use mathlib.Core.Bool.{true}
 use mathlib.Core.List.{List}
 use Prim.Native.Nat.{ℕ, _*_, _≤_, _<_}
-use Rattle.chart_opening.specs.Header.{layoutOf, headerOk}
+use Rattle.chart_opening.specs.Header.{layoutOf, frameOk}
 use Rattle.eval_rhythm.specs.declared.Counted.{Counted}
 use Rattle.eval_values.specs.Values.{rowOf}
 use Rattle.calls.specs.Tables.{recordWidth}
@@ -19,9 +19,9 @@ use Rattle.readings.specs.declared.AimAnswer.the-variants as OfAim
 use Rattle.readings.specs.declared.RhythmAnswer.{RhythmAnswer}
 use Rattle.readings.specs.declared.RhythmAnswer.the-variants as OfRhythm
 
--- a place that has a record in a table of r numbers
+-- a place that has a record in a table of r numbers, in a chart whose header is right but for its flags
 pub record InTable (b : List ℕ) (r place : ℕ) : Type 0 where
-  pub header : headerOk b ≡ true
+  pub frame : frameOk b ≡ true
   pub room : recordWidth * layoutOf b .n ≤ r
   pub one : 1 ≤ place
   pub below : place < layoutOf b .n

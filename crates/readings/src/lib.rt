@@ -1,16 +1,22 @@
 // The station's readings of a place: its record, its values, and what is worked out from the records there. Nothing is assumed of the caller: each reading
-// answers the first of conditions 1, 7 and 8 that is met, and writes nothing.
+// answers the first of conditions 1, 7 and 8 that is met, and writes nothing. A reading whose name ends in as is the second player's, with that player's
+// settings, of which another length is 2 right after 1; the first player's settings are the header's.
 ghost use mathlib.Core.Path.{_≡_};
 ghost use mathlib.Core.List.{[]};
 ghost use lib.ListN.{length};
+ghost use Rattle.num_tables.specs.Parts.{part};
+ghost use Rattle.chart_opening.specs.Limits.{settingsSize};
 ghost use Rattle.chart_opening.specs.Header.{settingsOf};
+ghost use Rattle.chart_players.specs.Second.{under, secondVerdict};
 ghost use Rattle.calls.specs.Afresh as details;
 ghost use Rattle.calls.specs.Afresh.{detailFrom};
 ghost use Rattle.calls.specs.Conditions as ops;
 ghost use Rattle.calls.specs.Conditions.{readVerdict};
 ghost use Rattle.calls.specs.Calls.{state, result, outcome};
+ghost use Rattle.calls_players.specs.Second.{outcomeAs};
 ghost use Rattle.readings.specs.Answers.{InTable, recordAnswer, valuesAnswer, aimFinding, aimAnswer, rhythmFinding, rhythmAnswer};
 use chart_opening::Refusal;
+use chart_opening::Settings;
 use chart_opening::Verdict;
 use eval_aim::AimParts;
 use eval_rhythm::Counted;
@@ -49,12 +55,16 @@ pub enum RhythmAnswer {
     Refused(Refusal),
 }
 
-// Conditions 1, 7 and 8 of a reading, for a table of as many entries.
-fn check_reading(chart: &[u8], entries: usize, place: usize) -> Verdict
-    ensures { λ r. ⌜ r ≡ readVerdict (now (chart .entry)) entries place ⌝ }
+// Conditions 1, 7 and 8 of a reading for the second player, with 2 right after 1 for settings of another length, for a table of as many entries.
+fn check_reading(chart: &[u8], settings: &[u8], entries: usize, place: usize) -> Verdict
+    ensures { λ r. ⌜ r ≡ secondVerdict (now (settings .entry)) (now (chart .entry))
+        (readVerdict (under (now (settings .entry)) (now (chart .entry))) entries place) ⌝ }
 {
-    if !chart_opening::header_ok(chart) {
+    if !chart_players::header_ok_as(chart, settings) {
         return Verdict::Refused(Refusal::Header);
+    }
+    if settings.len() != chart_players::SETTINGS_SIZE {
+        return Verdict::Refused(Refusal::Setting);
     }
     let lay = chart_opening::layout_of(chart);
     if entries < lay.n {
@@ -66,14 +76,38 @@ fn check_reading(chart: &[u8], entries: usize, place: usize) -> Verdict
     Verdict::Refused(Refusal::Place)
 }
 
+// The record of a place, as the table has it, for the second player.
+pub fn read_record_as(chart: &[u8], settings: &[u8], records: &[f64], place: usize) -> RecordAnswer
+    ensures { λ r. ⌜ result (recordAnswer r) (now (chart .exit)) (now (records .exit)) []
+        ≡ outcomeAs (now (settings .entry)) (ops.readRecord place) (state (now (chart .entry)) (now (records .entry)) []) ⌝ }
+    ensures settings { λ _. ⌜ now (settings .exit) ≡ now (settings .entry) ⌝ }
+{
+    match check_reading(chart, settings, records.len() / calls::RECORD_WIDTH, place) {
+        Verdict::Refused(r) => RecordAnswer::Refused(r),
+        Verdict::Accepted => RecordAnswer::Record(osu_records::record_at(records, place)),
+    }
+}
+
 // The record of a place, as the table has it.
 pub fn read_record(chart: &[u8], records: &[f64], place: usize) -> RecordAnswer
     ensures { λ r. ⌜ result (recordAnswer r) (now (chart .exit)) (now (records .exit)) []
         ≡ outcome (ops.readRecord place) (state (now (chart .entry)) (now (records .entry)) []) ⌝ }
 {
-    match check_reading(chart, records.len() / calls::RECORD_WIDTH, place) {
-        Verdict::Refused(r) => RecordAnswer::Refused(r),
-        Verdict::Accepted => RecordAnswer::Record(osu_records::record_at(records, place)),
+    if chart.len() < chart_fields::HEADER_SIZE {
+        return RecordAnswer::Refused(Refusal::Header);
+    }
+    read_record_as(chart, &chart[32..80], records, place)
+}
+
+// The values of a place, as the table has them, for the second player.
+pub fn read_values_as(chart: &[u8], settings: &[u8], values: &[f64], place: usize) -> ValuesAnswer
+    ensures { λ r. ⌜ result (valuesAnswer r) (now (chart .exit)) [] (now (values .exit))
+        ≡ outcomeAs (now (settings .entry)) (ops.readValues place) (state (now (chart .entry)) [] (now (values .entry))) ⌝ }
+    ensures settings { λ _. ⌜ now (settings .exit) ≡ now (settings .entry) ⌝ }
+{
+    match check_reading(chart, settings, values.len() / calls::VALUE_WIDTH, place) {
+        Verdict::Refused(r) => ValuesAnswer::Refused(r),
+        Verdict::Accepted => ValuesAnswer::Values(eval_values::row_at(values, place)),
     }
 }
 
@@ -82,13 +116,13 @@ pub fn read_values(chart: &[u8], values: &[f64], place: usize) -> ValuesAnswer
     ensures { λ r. ⌜ result (valuesAnswer r) (now (chart .exit)) [] (now (values .exit))
         ≡ outcome (ops.readValues place) (state (now (chart .entry)) [] (now (values .entry))) ⌝ }
 {
-    match check_reading(chart, values.len() / calls::VALUE_WIDTH, place) {
-        Verdict::Refused(r) => ValuesAnswer::Refused(r),
-        Verdict::Accepted => ValuesAnswer::Values(eval_values::row_at(values, place)),
+    if chart.len() < chart_fields::HEADER_SIZE {
+        return ValuesAnswer::Refused(Refusal::Header);
     }
+    read_values_as(chart, &chart[32..80], values, place)
 }
 
-// Aim at a place from 1 to n - 1, from the records of the table.
+// Aim at a place from 1 to n - 1, from the records of the table; no setting plays a part.
 fn aim_at(chart: &[u8], records: &[f64], place: usize) -> AimDetail
     requires { ⌜ InTable (now chart) (length (now records)) place ⌝ }
     ensures { λ r. ⌜ aimFinding r ≡ detailFrom details.aimParts (settingsOf (now (chart .entry))) (now (chart .entry)) (now (records .entry)) place ⌝ }
@@ -104,25 +138,51 @@ fn aim_at(chart: &[u8], records: &[f64], place: usize) -> AimDetail
     }
 }
 
-// Aim's value at a place with its parts, from the records of the table.
-pub fn read_aim_parts(chart: &[u8], records: &[f64], place: usize) -> AimAnswer
+// Aim's value at a place with its parts, from the records of the table, for the second player.
+pub fn read_aim_parts_as(chart: &[u8], settings: &[u8], records: &[f64], place: usize) -> AimAnswer
     ensures { λ r. ⌜ result (aimAnswer r) (now (chart .exit)) (now (records .exit)) []
-        ≡ outcome (ops.readDetail details.aimParts place) (state (now (chart .entry)) (now (records .entry)) []) ⌝ }
+        ≡ outcomeAs (now (settings .entry)) (ops.readDetail details.aimParts place) (state (now (chart .entry)) (now (records .entry)) []) ⌝ }
+    ensures settings { λ _. ⌜ now (settings .exit) ≡ now (settings .entry) ⌝ }
 {
-    match check_reading(chart, records.len() / calls::RECORD_WIDTH, place) {
+    match check_reading(chart, settings, records.len() / calls::RECORD_WIDTH, place) {
         Verdict::Refused(r) => AimAnswer::Refused(r),
         Verdict::Accepted => AimAnswer::Aim(aim_at(chart, records, place)),
     }
 }
 
+// Aim's value at a place with its parts, from the records of the table.
+pub fn read_aim_parts(chart: &[u8], records: &[f64], place: usize) -> AimAnswer
+    ensures { λ r. ⌜ result (aimAnswer r) (now (chart .exit)) (now (records .exit)) []
+        ≡ outcome (ops.readDetail details.aimParts place) (state (now (chart .entry)) (now (records .entry)) []) ⌝ }
+{
+    if chart.len() < chart_fields::HEADER_SIZE {
+        return AimAnswer::Refused(Refusal::Header);
+    }
+    read_aim_parts_as(chart, &chart[32..80], records, place)
+}
+
 // The rhythm value at a place from 1 to n - 1 and its comparisons, from the records of the table.
-fn rhythm_at(chart: &[u8], records: &[f64], place: usize) -> Counted
+fn rhythm_at(chart: &[u8], set: Settings, records: &[f64], place: usize) -> Counted
     requires { ⌜ InTable (now chart) (length (now records)) place ⌝ }
-    ensures { λ r. ⌜ rhythmFinding r ≡ detailFrom details.rhythm (settingsOf (now (chart .entry))) (now (chart .entry)) (now (records .entry)) place ⌝ }
+    ensures { λ r. ⌜ rhythmFinding r ≡ detailFrom details.rhythm set (now (chart .entry)) (now (records .entry)) place ⌝ }
 {
     let lay = chart_opening::layout_of(chart);
-    let set = chart_opening::settings_at(chart, calls::SETTINGS_AT);
     eval_rhythm::evaluate_counted(records, chart, lay, place, set.hit_window)
+}
+
+// The rhythm value of a place, and how often an island was compared with a kept one for it, from the records of the table, for the second player.
+pub fn read_rhythm_as(chart: &[u8], settings: &[u8], records: &[f64], place: usize) -> RhythmAnswer
+    ensures { λ r. ⌜ result (rhythmAnswer r) (now (chart .exit)) (now (records .exit)) []
+        ≡ outcomeAs (now (settings .entry)) (ops.readDetail details.rhythm place) (state (now (chart .entry)) (now (records .entry)) []) ⌝ }
+    ensures settings { λ _. ⌜ now (settings .exit) ≡ now (settings .entry) ⌝ }
+{
+    match check_reading(chart, settings, records.len() / calls::RECORD_WIDTH, place) {
+        Verdict::Refused(r) => RhythmAnswer::Refused(r),
+        Verdict::Accepted => {
+            let set = chart_opening::settings_at(settings, 0);
+            RhythmAnswer::Rhythm(rhythm_at(chart, set, records, place))
+        }
+    }
 }
 
 // The rhythm value of a place, and how often an island was compared with a kept one for it, from the records of the table.
@@ -130,8 +190,8 @@ pub fn read_rhythm(chart: &[u8], records: &[f64], place: usize) -> RhythmAnswer
     ensures { λ r. ⌜ result (rhythmAnswer r) (now (chart .exit)) (now (records .exit)) []
         ≡ outcome (ops.readDetail details.rhythm place) (state (now (chart .entry)) (now (records .entry)) []) ⌝ }
 {
-    match check_reading(chart, records.len() / calls::RECORD_WIDTH, place) {
-        Verdict::Refused(r) => RhythmAnswer::Refused(r),
-        Verdict::Accepted => RhythmAnswer::Rhythm(rhythm_at(chart, records, place)),
+    if chart.len() < chart_fields::HEADER_SIZE {
+        return RhythmAnswer::Refused(Refusal::Header);
     }
+    read_rhythm_as(chart, &chart[32..80], records, place)
 }

@@ -1,23 +1,21 @@
--- `readings::rhythm_at` meets its contract. Assumes nothing.
-use Rattle.chart_opening.proofs.Header.{parts}
-use borrow.Author.Needs.{needs}
-use Rattle.readings.proofs.Details.{placed, rhythm-found}
 use Rattle.readings.proofs.rhythm_at.Statement.{statement}
 use Rattle.readings.proofs.rhythm_at.Tie as tie
+use Rattle.readings.proofs.rhythm_at.Reads as reads
+use Rattle.readings.proofs.rhythm_at.Lts as lts
+use Rattle.chart_opening.proofs.layout_of.Reads as layout-of-reads
+use Rattle.eval_rhythm.proofs.evaluate_counted.Reads as evaluate-counted-reads
 
+-- src/lib.rt:169:9
 layout-of-requires : tie.Need-layout-of-requires
-layout-of-requires c κs = parts _ (c .before .before .pre .header) .long
+layout-of-requires c κs = ?
 
-settings-at-requires : tie.Need-settings-at-requires
-settings-at-requires c κs = parts _ (c .before .before .before .pre .header) .long
-
+-- src/lib.rt:170:5
 evaluate-counted-requires : tie.Need-evaluate-counted-requires
-evaluate-counted-requires c κs = placed _ _ _ _ (c .before .layout-of .ensures) (c .before .before .before .before .pre)
+evaluate-counted-requires c κs = ?
 
+-- src/lib.rt:165:1
 returns : tie.Need-returns
-returns c =
-    rhythm-found (c .before .before .before .before .before .args .chart .now) (c .before .before .layout-of .result) (c .before .before .before .before .before .args .records .now) (c .before .before .before .before .before .args .place) (c .before .before .layout-of .ensures)
-    (c .before .settings-at .result) (c .before .settings-at .ensures) _ _ (c .evaluate-counted .ensures .0) (c .evaluate-counted .ensures .1)
+returns c = ?
 
 pub rhythm-at-spec : {M : Type 1} → statement M
-rhythm-at-spec = tie.close (tie.spec layout-of-requires settings-at-requires evaluate-counted-requires returns)
+rhythm-at-spec = tie.close (tie.spec layout-of-requires evaluate-counted-requires returns)
