@@ -8,7 +8,7 @@ use Rattle.chart_fields.specs.Objects.{Holds}
 use Rattle.chart_fields.specs.declared.Layout.{Layout}
 use Rattle.chart_opening.specs.Header.{layoutOf, settingsOf}
 use Rattle.chart_opening.specs.declared.Settings.{Settings}
-use Rattle.chart_opening.proofs.Header.{holds}
+use Rattle.chart_opening.proofs.Header.{framed, holds-framed}
 use Rattle.osu_object.specs.Osu.{objectOf}
 use Rattle.osu_records.specs.Rows.{recordAt}
 use Rattle.osu_records.specs.Sight.{viewOf}
@@ -26,7 +26,7 @@ use Rattle.readings.specs.Answers.{InTable}
 pub placed : (b : List ℕ) (lay : Layout) (r j : ℕ) → lay ≡ layoutOf b → InTable b r j
     → Holds b lay × (1 ≤ j) × (j < lay .n) × (recordWidth * lay .n ≤ r)
 placed b lay r j e t =
-    subst (λ (l : Layout). Holds b l × (1 ≤ j) × (j < l .n) × (recordWidth * l .n ≤ r)) (sym e) (holds b (t .header), t .one, t .below, t .room)
+    subst (λ (l : Layout). Holds b l × (1 ≤ j) × (j < l .n) × (recordWidth * l .n ≤ r)) (sym e) (holds-framed b (framed b (t .frame)), t .one, t .below, t .room)
 
 module _ (b : List ℕ) (lay : Layout) (rs : List Float) (j : ℕ) (l : lay ≡ layoutOf b) where
   parts-by : (p : AimParts) (sliders : Bool) → p ≡ partsAtPlace (objectOf b lay) (recordAt rs) j sliders → p ≡ partsAtPlace (object b) (recordAt rs) j sliders
@@ -44,12 +44,12 @@ module _ (b : List ℕ) (lay : Layout) (rs : List Float) (j : ℕ) (l : lay ≡ 
   unfolding detailOf
   aim-found p q x y hp hq hx hy = λ t. aimIs (value-by p x true hp hx t) (parts-by p true hp t) (value-by q y false hq hy t) (parts-by q false hq t)
 
-  pub rhythm-found : (s : Settings) → s ≡ settingsOf b → (x : Float) (n : ℕ)
+  pub rhythm-found : (s : Settings) (x : Float) (n : ℕ)
       → x ≡ rhythmAtPlace (objectOf b lay) (recordAt rs) (reachOf (lay .n) j) j (s .«hit_window»)
       → n ≡ comparisonsAtPlace (objectOf b lay) (recordAt rs) j (s .«hit_window»)
-      → rhythmIs x n ≡ detailFrom rhythm (settingsOf b) b rs j
+      → rhythmIs x n ≡ detailFrom rhythm s b rs j
   unfolding detailOf
-  rhythm-found s e x n hx hn =
+  rhythm-found s x n hx hn =
       (λ t. rhythmIs (hx t) (hn t))
-      ∙ (λ t. rhythmIs (rhythmAtPlace (objectOf b (l t)) (recordAt rs) (reachOf (l t .n) j) j (e t .«hit_window»))
-      (comparisonsAtPlace (objectOf b (l t)) (recordAt rs) j (e t .«hit_window»)))
+      ∙ (λ t. rhythmIs (rhythmAtPlace (objectOf b (l t)) (recordAt rs) (reachOf (l t .n) j) j (s .«hit_window»))
+      (comparisonsAtPlace (objectOf b (l t)) (recordAt rs) j (s .«hit_window»)))

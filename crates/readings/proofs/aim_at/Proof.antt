@@ -1,12 +1,12 @@
 -- `readings::aim_at` meets its contract: the value is what the parts come to. Assumes nothing.
-use Rattle.chart_opening.proofs.Header.{parts}
+use Rattle.chart_opening.proofs.Header.{framed}
 use borrow.Author.Needs.{needs}
 use Rattle.readings.proofs.Details.{placed, aim-found}
 use Rattle.readings.proofs.aim_at.Statement.{statement}
 use Rattle.readings.proofs.aim_at.Tie as tie
 
 layout-of-requires : tie.Need-layout-of-requires
-layout-of-requires c κs = parts _ (c .before .before .pre .header) .long
+layout-of-requires c κs = framed _ (c .before .before .pre .frame) .long
 
 parts-place-requires : tie.Need-parts-place-requires
 parts-place-requires c κs = placed _ _ _ _ (c .layout-of .ensures) (c .before .before .before .pre)

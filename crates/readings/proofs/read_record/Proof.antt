@@ -1,3 +1,11 @@
+use Rattle.calls_players.proofs.Own.{outcome-short, own-outcome}
+use Rattle.calls_players.specs.Statement.{Reads}
+use Rattle.calls.specs.Calls.{state, refuse}
+use Rattle.calls.specs.Conditions.{readRecord, readValues, readDetail}
+use Rattle.calls.specs.Afresh.{aimParts, rhythm}
+use Rattle.num_tables.specs.Parts.{part}
+use mathlib.Core.List.{[]}
+use mathlib.Core.Path.{sym, ap, _∙_}
 use borrow.Author.Needs.{needs}
 use Rattle.readings.proofs.read_record.Statement.{statement}
 use Rattle.readings.proofs.read_record.Tie as tie
@@ -7,7 +15,8 @@ use Rattle.readings.proofs.read_record_as.Reads as read-record-as-reads
 
 -- src/lib.rt:97:9
 returns : tie.Need-returns
-returns c = ?
+unfolding refuse
+returns c = let a = c .before .before .before .args in sym (outcome-short (readRecord (a .place)) (state (a .chart .now) (a .records .now) []) (c .if1 .taken))
 
 -- src/lib.rt:99:27
 sub-read-record-as : tie.Need-sub-read-record-as
@@ -27,7 +36,8 @@ read-record-as-requires c κs = search needs
 
 -- src/lib.rt:92:1
 returns-2 : tie.Need-returns-2
-returns-2 c = ?
+unfolding part Reads
+returns-2 c = let a = c .before .before .before .before .before .args in c .read-record-as .ensures .0 ∙ own-outcome (state (a .chart .now) (a .records .now) []) (c .before .before .if1 .left) (readRecord (a .place)) tt
 
 pub read-record-spec : {M : Type 1} → statement M
 read-record-spec =

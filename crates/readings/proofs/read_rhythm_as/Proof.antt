@@ -1,3 +1,15 @@
+use Rattle.chart_players.specs.Under.{framed-under}
+use Rattle.chart_opening.proofs.Header.{framed, holds-framed}
+use Rattle.chart_opening.specs.declared.Settings.{Settings}
+use Rattle.chart_opening.specs.Header.{settingsAt, settingsOf}
+use Rattle.calls.specs.Afresh.{aimParts, rhythm, detailFrom}
+use Rattle.calls_players.specs.Same.{count-under}
+use Rattle.calls.proofs.Refusals.{accepted-read}
+use Rattle.calls.specs.Calls.{recordIs, valuesAre, detailIs, result}
+use Rattle.readings.proofs.Outcomes.{detail-refused, detail-read, passed, in-table, aim-any}
+use mathlib.Core.List.{[]}
+use native.Mathlib.Omega.{arith}
+use mathlib.Core.Path.{sym, ap, _∙_}
 use borrow.Author.Needs.{needs}
 use Rattle.readings.proofs.read_rhythm_as.Statement.{statement}
 use Rattle.readings.proofs.read_rhythm_as.Tie as tie
@@ -21,19 +33,19 @@ enum-told c = search needs
 
 -- src/lib.rt:182:17
 settings-at-requires : tie.Need-settings-at-requires
-settings-at-requires c κs = ?
+settings-at-requires c κs = let a = c .before .before .before .before .before .before .args in let p = passed (a .settings .now) (a .chart .now) (a .records .now) (a .place) _ (sym (c .before .before .check-reading .ensures) ∙ c .enum-told .given .1) .size in omega (arith, p)
 
 -- src/lib.rt:183:34
 rhythm-at-requires : tie.Need-rhythm-at-requires
-rhythm-at-requires c κs = ?
+rhythm-at-requires c κs = let a = c .before .before .before .before .before .before .before .args in in-table (a .settings .now) (a .chart .now) (a .records .now) (a .place) (sym (c .before .before .before .check-reading .ensures) ∙ c .before .enum-told .given .1)
 
 -- src/lib.rt:174:1
 returns : tie.Need-returns
-returns c = ?
+returns c = let a = c .before .before .before .before .before .before .before .args in (sym (detail-refused (a .settings .now) (a .chart .now) (a .records .now) (a .place) rhythm _ (sym (c .before .before .before .check-reading .ensures) ∙ c .before .r .given .1)), search needs)
 
 -- src/lib.rt:174:1
 returns-2 : tie.Need-returns-2
-returns-2 c = ?
+returns-2 c = let a = c .before .before .before .before .before .before .before .before .args in ((λ i. result (detailIs ((c .rhythm-at .ensures ∙ ap (λ (x : Settings). detailFrom rhythm x (a .chart .now) (a .records .now) (a .place)) (c .before .settings-at .ensures)) i)) (a .chart .now) (a .records .now) []) ∙ sym (detail-read (a .settings .now) (a .chart .now) (a .records .now) (a .place) rhythm (sym (c .before .before .before .before .check-reading .ensures) ∙ c .before .before .enum-told .given .1)), search needs)
 
 pub read-rhythm-as-spec : {M : Type 1} → statement M
 read-rhythm-as-spec =
