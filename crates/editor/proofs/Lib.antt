@@ -1,3 +1,4 @@
 pub mod Fits
+pub mod Second
 pub mod Edits
 pub mod Outcomes

@@ -1,17 +1,20 @@
-// The station's edits of a chart and its two tables: open, replace, insert, remove. Nothing is assumed of the caller: each call answers the first condition of
-// its list that is met and changes nothing, or is carried out.
+// The station's edits of a chart and its tables: open, replace, insert, remove. Nothing is assumed of the caller: each call answers the first condition of
+// its list that is met and changes nothing, or is carried out. A player's settings are the header's, or for the second player 48 bytes that come with the call
+// (open_as); an edit whose name ends in both brings the tables of both players up to date.
 ghost use mathlib.Core.Path.{_≡_};
 ghost use Prim.Native.Nat.{_+_, _-_, _*_, _<_, _≤_, min, max};
 ghost use lib.ListN.{length};
-ghost use Rattle.chart_opening.specs.Header.{layoutOf, settingsOf};
-ghost use Rattle.chart_opening.specs.declared.Verdict.the-variants.{Accepted};
+ghost use Rattle.chart_opening.specs.Header.{layoutOf};
 ghost use Rattle.calls.specs.Tables.{recordWidth, valueWidth, entriesOf};
 ghost use Rattle.calls.specs.Conditions as ops;
-ghost use Rattle.calls.specs.Conditions.{opening};
 ghost use Rattle.num_tables.specs.Parts.{rowsUp, rowsDown};
-ghost use Rattle.calls.specs.Calls.{state, result, opened, openAnswer, openLeaves, outcome, editRecords, editValues};
-ghost use Rattle.calls.specs.Calls.{insertedRecords, insertedValues, removedRecords, removedValues, firstMoved};
-ghost use Rattle.editor.specs.Answers.{replaceAnswer, insertAnswer, removeAnswer};
+ghost use Rattle.calls.specs.Calls.{state, result, openAnswer, openLeaves, outcome, openRecords, openValues, editRecords, editValues};
+ghost use Rattle.calls.specs.Calls.{replacedRecords, replacedValues, insertedRecords, insertedValues, removedRecords, removedValues, firstMoved};
+ghost use Rattle.calls_players.specs.Second.{openAnswerAs, openLeavesAs};
+ghost use Rattle.calls_players.specs.Both.{pair, bothAnswer, bothLeaves};
+ghost use Rattle.editor.specs.Answers.{Fits, replaceAnswer, insertAnswer, removeAnswer};
+use chart_opening::Refusal;
+use chart_opening::Settings;
 use chart_opening::Verdict;
 
 // How many whole entries both tables have.
@@ -42,16 +45,32 @@ fn before(k: usize) -> usize
     if 0 < k { k - 1 } else { 0 }
 }
 
-// Fills entries 1 to N - 1 of an accepted chart's tables.
-fn fill_tables(chart: &[u8], records: &mut [f64], values: &mut [f64])
-    requires { ⌜ opening (length (now records)) (length (now values)) (now chart) ≡ Accepted ⌝ }
-    ensures records { λ _. ⌜ now (records .exit) ≡ opened (state (now (chart .entry)) (now (records .entry)) (now (values .entry))) .records ⌝ }
-    ensures values { λ _. ⌜ now (values .exit) ≡ opened (state (now (chart .entry)) (now (records .entry)) (now (values .entry))) .values ⌝ }
+// Fills entries 1 to N - 1 of an accepted chart's tables, under a player's settings.
+fn fill_tables(chart: &[u8], set: Settings, records: &mut [f64], values: &mut [f64])
+    requires { ⌜ Fits (now chart) (length (now records)) (length (now values)) ⌝ }
+    ensures records { λ _. ⌜ now (records .exit) ≡ openRecords set (now (chart .entry)) (now (records .entry)) ⌝ }
+    ensures values { λ _. ⌜ now (values .exit) ≡ openValues set (now (chart .entry)) (now (records .exit)) (now (values .entry)) ⌝ }
 {
     let lay = chart_opening::layout_of(chart);
-    let set = chart_opening::settings_at(chart, calls::SETTINGS_AT);
     osu_records::fill(chart, lay, set, records);
     eval_values::fill_values(values, records, chart, lay, set, 1, lay.n);
+}
+
+// Checks a chart under the second player's settings and fills that player's tables.
+pub fn open_as(chart: &[u8], settings: &[u8], records: &mut [f64], values: &mut [f64]) -> Verdict
+    ensures answer { λ r. ⌜ r
+        ≡ openAnswerAs (now (settings .entry)) (state (now (chart .entry)) (now (records .entry)) (now (values .entry))) ⌝ }
+    ensures leaves { λ _. ⌜ state (now (chart .exit)) (now (records .exit)) (now (values .exit))
+        ≡ openLeavesAs (now (settings .entry)) (state (now (chart .entry)) (now (records .entry)) (now (values .entry))) ⌝ }
+    ensures settings { λ _. ⌜ now (settings .exit) ≡ now (settings .entry) ⌝ }
+{
+    match chart_players::check_as(chart, settings, entries_in(records.len(), values.len())) {
+        Verdict::Refused(r) => Verdict::Refused(r),
+        Verdict::Accepted => {
+            fill_tables(chart, chart_opening::settings_at(settings, 0), records, values);
+            Verdict::Accepted
+        }
+    }
 }
 
 // Checks a chart and fills its tables.
@@ -60,33 +79,28 @@ pub fn open(chart: &[u8], records: &mut [f64], values: &mut [f64]) -> Verdict
     ensures leaves { λ _. ⌜ state (now (chart .exit)) (now (records .exit)) (now (values .exit))
         ≡ openLeaves (state (now (chart .entry)) (now (records .entry)) (now (values .entry))) ⌝ }
 {
-    match chart_opening::check(chart, entries_in(records.len(), values.len())) {
-        Verdict::Refused(r) => Verdict::Refused(r),
-        Verdict::Accepted => {
-            fill_tables(chart, records, values);
-            Verdict::Accepted
-        }
+    if chart.len() < chart_fields::HEADER_SIZE {
+        return Verdict::Refused(Refusal::Header);
     }
+    open_as(chart, &chart[32..80], records, values)
 }
 
-// Makes anew what an edit at a place can have changed: the records from that place to before records_end from the chart, and the values from the place before
-// it to before values_end from the records.
+// Makes anew what an edit at a place can have changed, under a player's settings: the records from that place to before records_end from the chart, and the
+// values from the place before it to before values_end from the records.
 fn bring_up_to_date(
     chart: &[u8],
+    set: Settings,
     place: usize,
     records_end: usize,
     values_end: usize,
     records: &mut [f64],
     values: &mut [f64],
 )
-    requires { ⌜ opening (length (now records)) (length (now values)) (now chart) ≡ Accepted ⌝ }
-    ensures records { λ _. ⌜ now (records .exit)
-        ≡ editRecords (settingsOf (now (chart .entry))) (now (chart .entry)) place «records_end» (now (records .entry)) ⌝ }
-    ensures values { λ _. ⌜ now (values .exit)
-        ≡ editValues (settingsOf (now (chart .entry))) (now (chart .entry)) place «values_end» (now (records .exit)) (now (values .entry)) ⌝ }
+    requires { ⌜ Fits (now chart) (length (now records)) (length (now values)) ⌝ }
+    ensures records { λ _. ⌜ now (records .exit) ≡ editRecords set (now (chart .entry)) place «records_end» (now (records .entry)) ⌝ }
+    ensures values { λ _. ⌜ now (values .exit) ≡ editValues set (now (chart .entry)) place «values_end» (now (records .exit)) (now (values .entry)) ⌝ }
 {
     let lay = chart_opening::layout_of(chart);
-    let set = chart_opening::settings_at(chart, calls::SETTINGS_AT);
     let n = lay.n;
     osu_records::fill_range(
         chart,
@@ -106,6 +120,22 @@ fn bring_up_to_date(
         from,
         smaller(values_end, n),
     );
+}
+
+// Makes anew what another object at a place can have changed, once the chart has it.
+fn replace_rows(
+    chart: &[u8],
+    set: Settings,
+    place: usize,
+    records: &mut [f64],
+    values: &mut [f64],
+)
+    requires { ⌜ Fits (now chart) (length (now records)) (length (now values)) × (place < layoutOf (now chart) .n) ⌝ }
+    ensures records { λ _. ⌜ now (records .exit) ≡ editRecords set (now (chart .entry)) place (replacedRecords place) (now (records .entry)) ⌝ }
+    ensures values { λ _. ⌜ now (values .exit)
+        ≡ editValues set (now (chart .entry)) place (replacedValues place) (now (records .exit)) (now (values .entry)) ⌝ }
+{
+    bring_up_to_date(chart, set, place, place + 3, place + 34, records, values);
 }
 
 // Puts an object at a place of the chart and brings both tables up to date.
@@ -128,7 +158,8 @@ pub fn replace(
     ) {
         Verdict::Refused(r) => Verdict::Refused(r),
         Verdict::Accepted => {
-            bring_up_to_date(chart, place, place + 3, place + 34, records, values);
+            let set = chart_opening::settings_at(chart, calls::SETTINGS_AT);
+            replace_rows(chart, set, place, records, values);
             Verdict::Accepted
         }
     }
@@ -204,11 +235,17 @@ fn values_down(values: &mut [f64], from: usize, to: usize)
 }
 
 // Moves the rows of later objects up and makes anew what an object put in at a place can have changed, once the chart has it.
-fn insert_rows(chart: &[u8], place: usize, records: &mut [f64], values: &mut [f64])
-    requires { ⌜ (opening (length (now records)) (length (now values)) (now chart) ≡ Accepted) × (place < layoutOf (now chart) .n) ⌝ }
-    ensures records { λ _. ⌜ now (records .exit) ≡ editRecords (settingsOf (now (chart .entry))) (now (chart .entry)) place (insertedRecords place)
+fn insert_rows(
+    chart: &[u8],
+    set: Settings,
+    place: usize,
+    records: &mut [f64],
+    values: &mut [f64],
+)
+    requires { ⌜ Fits (now chart) (length (now records)) (length (now values)) × (place < layoutOf (now chart) .n) ⌝ }
+    ensures records { λ _. ⌜ now (records .exit) ≡ editRecords set (now (chart .entry)) place (insertedRecords place)
         (rowsUp recordWidth (firstMoved place) (layoutOf (now (chart .entry)) .n - 1) (now (records .entry))) ⌝ }
-    ensures values { λ _. ⌜ now (values .exit) ≡ editValues (settingsOf (now (chart .entry))) (now (chart .entry)) place (insertedValues place)
+    ensures values { λ _. ⌜ now (values .exit) ≡ editValues set (now (chart .entry)) place (insertedValues place)
         (now (records .exit)) (rowsUp valueWidth (firstMoved place) (layoutOf (now (chart .entry)) .n - 1) (now (values .entry))) ⌝ }
 {
     let n = chart_opening::layout_of(chart).n;
@@ -216,7 +253,7 @@ fn insert_rows(chart: &[u8], place: usize, records: &mut [f64], values: &mut [f6
     records_up(records, from, n - 1);
     values_up(values, from, n - 1);
     let end = larger(place + 3, 4);
-    bring_up_to_date(chart, place, end, place + 34, records, values);
+    bring_up_to_date(chart, set, place, end, place + 34, records, values);
 }
 
 // Puts an object in before a place of the chart: objects, nested entries and points move up in the buffer, and rows with their objects.
@@ -239,19 +276,26 @@ pub fn insert(
     ) {
         Verdict::Refused(r) => Verdict::Refused(r),
         Verdict::Accepted => {
-            insert_rows(chart, place, records, values);
+            let set = chart_opening::settings_at(chart, calls::SETTINGS_AT);
+            insert_rows(chart, set, place, records, values);
             Verdict::Accepted
         }
     }
 }
 
 // Moves the rows of later objects down and makes anew what an object taken out at a place can have changed, once the chart is without it.
-fn remove_rows(chart: &[u8], place: usize, records: &mut [f64], values: &mut [f64])
-    requires { ⌜ (opening (length (now records)) (length (now values)) (now chart) ≡ Accepted) × (place ≤ layoutOf (now chart) .n)
+fn remove_rows(
+    chart: &[u8],
+    set: Settings,
+    place: usize,
+    records: &mut [f64],
+    values: &mut [f64],
+)
+    requires { ⌜ Fits (now chart) (length (now records)) (length (now values)) × (place ≤ layoutOf (now chart) .n)
         × (recordWidth * (layoutOf (now chart) .n + 1) ≤ length (now records)) × (valueWidth * (layoutOf (now chart) .n + 1) ≤ length (now values)) ⌝ }
-    ensures records { λ _. ⌜ now (records .exit) ≡ editRecords (settingsOf (now (chart .entry))) (now (chart .entry)) place (removedRecords place)
+    ensures records { λ _. ⌜ now (records .exit) ≡ editRecords set (now (chart .entry)) place (removedRecords place)
         (rowsDown recordWidth (firstMoved place) (layoutOf (now (chart .entry)) .n + 1) (now (records .entry))) ⌝ }
-    ensures values { λ _. ⌜ now (values .exit) ≡ editValues (settingsOf (now (chart .entry))) (now (chart .entry)) place (removedValues place)
+    ensures values { λ _. ⌜ now (values .exit) ≡ editValues set (now (chart .entry)) place (removedValues place)
         (now (records .exit)) (rowsDown valueWidth (firstMoved place) (layoutOf (now (chart .entry)) .n + 1) (now (values .entry))) ⌝ }
 {
     let n = chart_opening::layout_of(chart).n;
@@ -259,7 +303,7 @@ fn remove_rows(chart: &[u8], place: usize, records: &mut [f64], values: &mut [f6
     records_down(records, from, n + 1);
     values_down(values, from, n + 1);
     let end = larger(place + 2, 3);
-    bring_up_to_date(chart, place, end, place + 33, records, values);
+    bring_up_to_date(chart, set, place, end, place + 33, records, values);
 }
 
 // Takes the object at a place out: what lies behind it moves down, and rows with their objects.
@@ -270,7 +314,119 @@ pub fn remove(chart: &mut [u8], place: usize, records: &mut [f64], values: &mut 
     match chart_inserting::remove(chart, place, entries_in(records.len(), values.len())) {
         Verdict::Refused(r) => Verdict::Refused(r),
         Verdict::Accepted => {
-            remove_rows(chart, place, records, values);
+            let set = chart_opening::settings_at(chart, calls::SETTINGS_AT);
+            remove_rows(chart, set, place, records, values);
+            Verdict::Accepted
+        }
+    }
+}
+
+// Puts an object at a place of the chart and brings the tables up to date for both players, the second with these settings.
+pub fn replace_both(
+    chart: &mut [u8],
+    settings: &[u8],
+    place: usize,
+    object: &[u8],
+    records: &mut [f64],
+    values: &mut [f64],
+    second_records: &mut [f64],
+    second_values: &mut [f64],
+) -> Verdict
+    ensures answer { λ r. ⌜ r ≡ bothAnswer (now (settings .entry)) (ops.replace place (now (object .entry)))
+        (pair (now (chart .entry)) (now (records .entry)) (now (values .entry)) (now («second_records» .entry)) (now («second_values» .entry))) ⌝ }
+    ensures leaves { λ _. ⌜ pair (now (chart .exit)) (now (records .exit)) (now (values .exit)) (now («second_records» .exit)) (now («second_values» .exit))
+        ≡ bothLeaves (now (settings .entry)) (ops.replace place (now (object .entry)))
+        (pair (now (chart .entry)) (now (records .entry)) (now (values .entry)) (now («second_records» .entry)) (now («second_values» .entry))) ⌝ }
+    ensures settings { λ _. ⌜ now (settings .exit) ≡ now (settings .entry) ⌝ }
+    ensures object { λ _. ⌜ now (object .exit) ≡ now (object .entry) ⌝ }
+{
+    match chart_players::replace_both(
+        chart,
+        settings,
+        place,
+        object,
+        entries_in(records.len(), values.len()),
+        entries_in(second_records.len(), second_values.len()),
+    ) {
+        Verdict::Refused(r) => Verdict::Refused(r),
+        Verdict::Accepted => {
+            let set = chart_opening::settings_at(chart, calls::SETTINGS_AT);
+            replace_rows(chart, set, place, records, values);
+            let second = chart_opening::settings_at(settings, 0);
+            replace_rows(chart, second, place, second_records, second_values);
+            Verdict::Accepted
+        }
+    }
+}
+
+// Puts an object in before a place of the chart and brings the tables up to date for both players, the second with these settings.
+pub fn insert_both(
+    chart: &mut [u8],
+    settings: &[u8],
+    place: usize,
+    object: &[u8],
+    records: &mut [f64],
+    values: &mut [f64],
+    second_records: &mut [f64],
+    second_values: &mut [f64],
+) -> Verdict
+    ensures answer { λ r. ⌜ r ≡ bothAnswer (now (settings .entry)) (ops.insert place (now (object .entry)))
+        (pair (now (chart .entry)) (now (records .entry)) (now (values .entry)) (now («second_records» .entry)) (now («second_values» .entry))) ⌝ }
+    ensures leaves { λ _. ⌜ pair (now (chart .exit)) (now (records .exit)) (now (values .exit)) (now («second_records» .exit)) (now («second_values» .exit))
+        ≡ bothLeaves (now (settings .entry)) (ops.insert place (now (object .entry)))
+        (pair (now (chart .entry)) (now (records .entry)) (now (values .entry)) (now («second_records» .entry)) (now («second_values» .entry))) ⌝ }
+    ensures settings { λ _. ⌜ now (settings .exit) ≡ now (settings .entry) ⌝ }
+    ensures object { λ _. ⌜ now (object .exit) ≡ now (object .entry) ⌝ }
+{
+    match chart_players::insert_both(
+        chart,
+        settings,
+        place,
+        object,
+        entries_in(records.len(), values.len()),
+        entries_in(second_records.len(), second_values.len()),
+    ) {
+        Verdict::Refused(r) => Verdict::Refused(r),
+        Verdict::Accepted => {
+            let set = chart_opening::settings_at(chart, calls::SETTINGS_AT);
+            insert_rows(chart, set, place, records, values);
+            let second = chart_opening::settings_at(settings, 0);
+            insert_rows(chart, second, place, second_records, second_values);
+            Verdict::Accepted
+        }
+    }
+}
+
+// Takes the object at a place out and brings the tables up to date for both players, the second with these settings.
+pub fn remove_both(
+    chart: &mut [u8],
+    settings: &[u8],
+    place: usize,
+    records: &mut [f64],
+    values: &mut [f64],
+    second_records: &mut [f64],
+    second_values: &mut [f64],
+) -> Verdict
+    ensures answer { λ r. ⌜ r ≡ bothAnswer (now (settings .entry)) (ops.remove place)
+        (pair (now (chart .entry)) (now (records .entry)) (now (values .entry)) (now («second_records» .entry)) (now («second_values» .entry))) ⌝ }
+    ensures leaves { λ _. ⌜ pair (now (chart .exit)) (now (records .exit)) (now (values .exit)) (now («second_records» .exit)) (now («second_values» .exit))
+        ≡ bothLeaves (now (settings .entry)) (ops.remove place)
+        (pair (now (chart .entry)) (now (records .entry)) (now (values .entry)) (now («second_records» .entry)) (now («second_values» .entry))) ⌝ }
+    ensures settings { λ _. ⌜ now (settings .exit) ≡ now (settings .entry) ⌝ }
+{
+    match chart_players::remove_both(
+        chart,
+        settings,
+        place,
+        entries_in(records.len(), values.len()),
+        entries_in(second_records.len(), second_values.len()),
+    ) {
+        Verdict::Refused(r) => Verdict::Refused(r),
+        Verdict::Accepted => {
+            let set = chart_opening::settings_at(chart, calls::SETTINGS_AT);
+            remove_rows(chart, set, place, records, values);
+            let second = chart_opening::settings_at(settings, 0);
+            remove_rows(chart, second, place, second_records, second_values);
             Verdict::Accepted
         }
     }
