@@ -25,6 +25,8 @@ use Rattle.star_rating.specs.declared.Ratings.{Ratings}
 use Rattle.calls.specs.Tables.{valueEntries}
 use Rattle.calls.specs.Afresh.{Finding, aimIs, rhythmIs, Figure, Amount, totalsAre, countsAre, playedAre, ratingsAre}
 use Rattle.calls.specs.Conditions.{Scratch, lengths, scratchShort, Operation, figure, figureVerdict}
+use Rattle.chart_players.specs.Second.{under, secondVerdict}
+use Rattle.calls_players.specs.Second.{seen, outcomeAs}
 use Rattle.calls.specs.Calls.{Answer, refused, replaced, inserted, removed, recordIs, valuesAre, detailIs, figureIs, State, Outcome, refuse, execute, outcome, cleared}
 
 -- 2^32
@@ -127,6 +129,23 @@ figureInto f cramped x st = ifAccepted (intoVerdict f cramped x st) (execute (fi
 
 unfoldable pub scratchInto : Figure → Bool → Scratch → State → Scratch
 scratchInto f cramped x st = ifAccepted (intoVerdict f cramped x st) (cleared x) (λ r. x)
+
+-- ---- The same for the second player, whose settings t come with the call: 7 comes right after 1 and settings of another length
+
+unfoldable pub readIntoAs : List ℕ → ℕ → ℕ → Operation → State → Outcome
+readIntoAs t need room a st =
+    cond (ltb room need) (ifAccepted (secondVerdict t (st .chart) (Refused Table)) (outcomeAs t a st) (refuse st)) (outcomeAs t a st)
+
+unfoldable pub intoVerdictAs : List ℕ → Figure → Bool → Scratch → State → Verdict
+intoVerdictAs t f cramped x st =
+    secondVerdict t (st .chart) (figureVerdict f (under t (st .chart)) (valueEntries (length (st .values))) (cramped || scratchShort (lengths x)))
+
+unfoldable pub figureIntoAs : List ℕ → Figure → Bool → Scratch → State → Outcome
+figureIntoAs t f cramped x st =
+    ifAccepted (intoVerdictAs t f cramped x st) (record { answer = execute (figure f (lengths x)) (seen t st) .answer; leaves = st }) (refuse st)
+
+unfoldable pub scratchIntoAs : List ℕ → Figure → Bool → Scratch → State → Scratch
+scratchIntoAs t f cramped x st = ifAccepted (intoVerdictAs t f cramped x st) (cleared x) (λ r. x)
 
 -- ---- What comes with ratings: a word of mods, a word whose bits 0 and 1 say whether attraction strength and start scale are given, and five numbers
 

@@ -1,5 +1,6 @@
 // The station's calls under C names, over slices: a slice passes as a pointer and a length. Nothing is assumed of the lengths or of the
-// contents. Each call answers 0 where it is carried out, else the refusal's number times 2^32 plus its place.
+// contents. Each call answers 0 where it is carried out, else the refusal's number times 2^32 plus its place. A call whose name ends in as is the second
+// player's, with 48 bytes of settings; the first player's settings are the header's. An edit whose name ends in both is for both players.
 ghost use mathlib.Core.Path.{_≡_};
 ghost use mathlib.Core.Bool.{true};
 ghost use mathlib.Core.List.{[]};
@@ -8,17 +9,21 @@ ghost use lib.Dec.{ltb};
 ghost use lib.Ieee.{nan};
 ghost use lib.ListN.{length, getD};
 ghost use Rattle.num_tables.specs.Parts.{put};
+ghost use Rattle.chart_opening.specs.declared.Refusal.the-variants.{Table};
 ghost use Rattle.chart_opening.specs.declared.Verdict.the-variants.{Refused};
+ghost use Rattle.chart_players.specs.Second.{under, secondVerdict};
 ghost use Rattle.calls.specs.Conditions as ops;
 ghost use Rattle.calls.specs.Afresh as kinds;
 ghost use Rattle.calls.specs.Conditions.{lengths, sumVerdict};
 ghost use Rattle.calls.specs.Tables.{totalsWidth};
 ghost use Rattle.calls.specs.Calls.{state, result, openAnswer, openLeaves, verdictIn, outcome, listAfter, scratchAfter};
+ghost use Rattle.calls_players.specs.Second.{openAnswerAs, openLeavesAs, verdictAs, outcomeAs, scratchAfterAs};
+ghost use Rattle.calls_players.specs.Both.{pair, bothAnswer, bothLeaves};
 ghost use Rattle.readings.specs.Answers.{recordAnswer, valuesAnswer, aimFinding, aimAnswer, rhythmAnswer};
 ghost use Rattle.figures.specs.Answers.{totalsAnswer, countsAnswer, ratingsAnswer, scratchOf};
 ghost use Rattle.station.specs.Codes.{codeOf, verdictCode, answerCode, ruleNumber, findingRow, numbersOf, totalsRow, countsRow, ratingsRow};
 ghost use Rattle.station.specs.Codes.{aimWidth, rhythmWidth, countsWidth, ratingsWidth, askedOf, ratingsCramped};
-ghost use Rattle.station.specs.Codes.{noRoom, readInto, figureInto, scratchInto};
+ghost use Rattle.station.specs.Codes.{readInto, figureInto, scratchInto, readIntoAs, figureIntoAs, scratchIntoAs};
 use chart_opening::Refusal;
 use chart_opening::Verdict;
 use eval_aim::AimRule;
@@ -60,6 +65,20 @@ fn code(r: Refusal) -> u64
     r.number() as u64 * PLACE_SPAN as u64 + (r.place() % PLACE_SPAN) as u64
 }
 
+// Checks a chart and fills its tables, for the second player with these settings.
+#[no_mangle]
+pub extern "C" fn difficulty_open_as(chart: &[u8], settings: &[u8], records: &mut [f64], values: &mut [f64]) -> u64
+    ensures answer { λ r. ⌜ r ≡ verdictCode (openAnswerAs (now (settings .entry)) (state (now (chart .entry)) (now (records .entry)) (now (values .entry)))) ⌝ }
+    ensures leaves { λ _. ⌜ state (now (chart .exit)) (now (records .exit)) (now (values .exit))
+        ≡ openLeavesAs (now (settings .entry)) (state (now (chart .entry)) (now (records .entry)) (now (values .entry))) ⌝ }
+    ensures settings { λ _. ⌜ now (settings .exit) ≡ now (settings .entry) ⌝ }
+{
+    match editor::open_as(chart, settings, records, values) {
+        Verdict::Refused(r) => code(r),
+        Verdict::Accepted => 0,
+    }
+}
+
 // Checks a chart and fills its tables.
 #[no_mangle]
 pub extern "C" fn difficulty_open(chart: &[u8], records: &mut [f64], values: &mut [f64]) -> u64
@@ -67,10 +86,15 @@ pub extern "C" fn difficulty_open(chart: &[u8], records: &mut [f64], values: &mu
     ensures leaves { λ _. ⌜ state (now (chart .exit)) (now (records .exit)) (now (values .exit))
         ≡ openLeaves (state (now (chart .entry)) (now (records .entry)) (now (values .entry))) ⌝ }
 {
-    match editor::open(chart, records, values) {
-        Verdict::Refused(r) => code(r),
-        Verdict::Accepted => 0,
+    if chart.len() < chart_fields::HEADER_SIZE {
+        return code(Refusal::Header);
     }
+    difficulty_open_as(
+        chart,
+        &chart[32..80],
+        records,
+        values,
+    )
 }
 
 // Puts an object at a place of the chart and brings both tables up to date.
@@ -90,6 +114,41 @@ pub extern "C" fn difficulty_replace(
     ensures object { λ _. ⌜ now (object .exit) ≡ now (object .entry) ⌝ }
 {
     match editor::replace(chart, place, object, records, values) {
+        Verdict::Refused(r) => code(r),
+        Verdict::Accepted => 0,
+    }
+}
+
+// Puts an object at a place of the chart and brings the tables of both players up to date.
+#[no_mangle]
+pub extern "C" fn difficulty_replace_both(
+    chart: &mut [u8],
+    settings: &[u8],
+    place: usize,
+    object: &[u8],
+    records: &mut [f64],
+    values: &mut [f64],
+    second_records: &mut [f64],
+    second_values: &mut [f64],
+) -> u64
+    ensures answer { λ r. ⌜ r ≡ verdictCode (bothAnswer (now (settings .entry)) (ops.replace place (now (object .entry)))
+        (pair (now (chart .entry)) (now (records .entry)) (now (values .entry)) (now («second_records» .entry)) (now («second_values» .entry)))) ⌝ }
+    ensures leaves { λ _. ⌜ pair (now (chart .exit)) (now (records .exit)) (now (values .exit)) (now («second_records» .exit)) (now («second_values» .exit))
+        ≡ bothLeaves (now (settings .entry)) (ops.replace place (now (object .entry)))
+        (pair (now (chart .entry)) (now (records .entry)) (now (values .entry)) (now («second_records» .entry)) (now («second_values» .entry))) ⌝ }
+    ensures settings { λ _. ⌜ now (settings .exit) ≡ now (settings .entry) ⌝ }
+    ensures object { λ _. ⌜ now (object .exit) ≡ now (object .entry) ⌝ }
+{
+    match editor::replace_both(
+        chart,
+        settings,
+        place,
+        object,
+        records,
+        values,
+        second_records,
+        second_values,
+    ) {
         Verdict::Refused(r) => code(r),
         Verdict::Accepted => 0,
     }
@@ -117,6 +176,41 @@ pub extern "C" fn difficulty_insert(
     }
 }
 
+// Puts an object in before a place of the chart, in a buffer with room for it, for both players.
+#[no_mangle]
+pub extern "C" fn difficulty_insert_both(
+    chart: &mut [u8],
+    settings: &[u8],
+    place: usize,
+    object: &[u8],
+    records: &mut [f64],
+    values: &mut [f64],
+    second_records: &mut [f64],
+    second_values: &mut [f64],
+) -> u64
+    ensures answer { λ r. ⌜ r ≡ verdictCode (bothAnswer (now (settings .entry)) (ops.insert place (now (object .entry)))
+        (pair (now (chart .entry)) (now (records .entry)) (now (values .entry)) (now («second_records» .entry)) (now («second_values» .entry)))) ⌝ }
+    ensures leaves { λ _. ⌜ pair (now (chart .exit)) (now (records .exit)) (now (values .exit)) (now («second_records» .exit)) (now («second_values» .exit))
+        ≡ bothLeaves (now (settings .entry)) (ops.insert place (now (object .entry)))
+        (pair (now (chart .entry)) (now (records .entry)) (now (values .entry)) (now («second_records» .entry)) (now («second_values» .entry))) ⌝ }
+    ensures settings { λ _. ⌜ now (settings .exit) ≡ now (settings .entry) ⌝ }
+    ensures object { λ _. ⌜ now (object .exit) ≡ now (object .entry) ⌝ }
+{
+    match editor::insert_both(
+        chart,
+        settings,
+        place,
+        object,
+        records,
+        values,
+        second_records,
+        second_values,
+    ) {
+        Verdict::Refused(r) => code(r),
+        Verdict::Accepted => 0,
+    }
+}
+
 // Takes the object at a place out of the chart.
 #[no_mangle]
 pub extern "C" fn difficulty_remove(
@@ -136,25 +230,88 @@ pub extern "C" fn difficulty_remove(
     }
 }
 
-// Why a reading is refused whose answer has no room.
-fn no_room(chart: &[u8]) -> Refusal
-    ensures { λ r. ⌜ r ≡ noRoom (now (chart .entry)) ⌝ }
+// Takes the object at a place out of the chart, for both players.
+#[no_mangle]
+pub extern "C" fn difficulty_remove_both(
+    chart: &mut [u8],
+    settings: &[u8],
+    place: usize,
+    records: &mut [f64],
+    values: &mut [f64],
+    second_records: &mut [f64],
+    second_values: &mut [f64],
+) -> u64
+    ensures answer { λ r. ⌜ r ≡ verdictCode (bothAnswer (now (settings .entry)) (ops.remove place)
+        (pair (now (chart .entry)) (now (records .entry)) (now (values .entry)) (now («second_records» .entry)) (now («second_values» .entry)))) ⌝ }
+    ensures leaves { λ _. ⌜ pair (now (chart .exit)) (now (records .exit)) (now (values .exit)) (now («second_records» .exit)) (now («second_values» .exit))
+        ≡ bothLeaves (now (settings .entry)) (ops.remove place)
+        (pair (now (chart .entry)) (now (records .entry)) (now (values .entry)) (now («second_records» .entry)) (now («second_values» .entry))) ⌝ }
+    ensures settings { λ _. ⌜ now (settings .exit) ≡ now (settings .entry) ⌝ }
 {
-    if chart_opening::header_ok(chart) {
-        return Refusal::Table;
+    match editor::remove_both(
+        chart,
+        settings,
+        place,
+        records,
+        values,
+        second_records,
+        second_values,
+    ) {
+        Verdict::Refused(r) => code(r),
+        Verdict::Accepted => 0,
     }
-    Refusal::Header
 }
 
-// The record of a place, for an answer with as much room.
-fn record_into(chart: &[u8], records: &[f64], place: usize, room: usize) -> RecordAnswer
+// Why a reading of the second player is refused whose answer has no room: 7 right after 1 and settings of another length.
+fn no_room(chart: &[u8], settings: &[u8]) -> Refusal
+    ensures { λ r. ⌜ Refused r ≡ secondVerdict (now (settings .entry)) (now (chart .entry)) (Refused Table) ⌝ }
+{
+    if !chart_players::header_ok_as(chart, settings) {
+        return Refusal::Header;
+    }
+    if settings.len() != chart_players::SETTINGS_SIZE {
+        return Refusal::Setting;
+    }
+    Refusal::Table
+}
+
+// The record of a place, for the second player and an answer with as much room.
+fn record_into(chart: &[u8], settings: &[u8], records: &[f64], place: usize, room: usize) -> RecordAnswer
     ensures { λ r. ⌜ result (recordAnswer r) (now (chart .exit)) (now (records .exit)) []
-        ≡ readInto 16 room (ops.readRecord place) (state (now (chart .entry)) (now (records .entry)) []) ⌝ }
+        ≡ readIntoAs (now (settings .entry)) 16 room (ops.readRecord place) (state (now (chart .entry)) (now (records .entry)) []) ⌝ }
 {
     if room < calls::RECORD_WIDTH {
-        return RecordAnswer::Refused(no_room(chart));
+        return RecordAnswer::Refused(no_room(chart, settings));
     }
-    readings::read_record(chart, records, place)
+    readings::read_record_as(chart, settings, records, place)
+}
+
+// Writes the record of a place, as the table has it: sixteen numbers, in the table's order, for the second player with these settings.
+#[no_mangle]
+pub extern "C" fn difficulty_read_record_as(
+    chart: &[u8],
+    settings: &[u8],
+    records: &[f64],
+    place: usize,
+    out: &mut [f64],
+) -> u64
+    ensures answer { λ r. ⌜ r
+        ≡ answerCode (readIntoAs (now (settings .entry)) 16 (length (now (out .entry))) (ops.readRecord place)
+        (state (now (chart .entry)) (now (records .entry)) []) .answer) ⌝ }
+    ensures out { λ _. ⌜ now (out .exit)
+        ≡ put 0 (numbersOf (readIntoAs (now (settings .entry)) 16 (length (now (out .entry))) (ops.readRecord place)
+        (state (now (chart .entry)) (now (records .entry)) []) .answer))
+        (now (out .entry)) ⌝ }
+    ensures leaves { λ _. ⌜ state (now (chart .exit)) (now (records .exit)) [] ≡ state (now (chart .entry)) (now (records .entry)) [] ⌝ }
+    ensures settings { λ _. ⌜ now (settings .exit) ≡ now (settings .entry) ⌝ }
+{
+    match record_into(chart, settings, records, place, out.len()) {
+        RecordAnswer::Refused(r) => code(r),
+        RecordAnswer::Record(x) => {
+            osu_records::put_record(out, 0, x);
+            0
+        }
+    }
 }
 
 // Writes the record of a place, as the table has it: sixteen numbers, in the table's order.
@@ -174,24 +331,55 @@ pub extern "C" fn difficulty_read_record(
         (now (out .entry)) ⌝ }
     ensures leaves { λ _. ⌜ state (now (chart .exit)) (now (records .exit)) [] ≡ state (now (chart .entry)) (now (records .entry)) [] ⌝ }
 {
-    match record_into(chart, records, place, out.len()) {
-        RecordAnswer::Refused(r) => code(r),
-        RecordAnswer::Record(x) => {
-            osu_records::put_record(out, 0, x);
+    if chart.len() < chart_fields::HEADER_SIZE {
+        return code(Refusal::Header);
+    }
+    difficulty_read_record_as(
+        chart,
+        &chart[32..80],
+        records,
+        place,
+        out,
+    )
+}
+
+// The values of a place, for the second player and an answer with as much room.
+fn values_into(chart: &[u8], settings: &[u8], values: &[f64], place: usize, room: usize) -> ValuesAnswer
+    ensures { λ r. ⌜ result (valuesAnswer r) (now (chart .exit)) [] (now (values .exit))
+        ≡ readIntoAs (now (settings .entry)) 5 room (ops.readValues place) (state (now (chart .entry)) [] (now (values .entry))) ⌝ }
+{
+    if room < calls::VALUE_WIDTH {
+        return ValuesAnswer::Refused(no_room(chart, settings));
+    }
+    readings::read_values_as(chart, settings, values, place)
+}
+
+// Writes the five values of a place, as the table has them, for the second player with these settings.
+#[no_mangle]
+pub extern "C" fn difficulty_read_values_as(
+    chart: &[u8],
+    settings: &[u8],
+    values: &[f64],
+    place: usize,
+    out: &mut [f64],
+) -> u64
+    ensures answer { λ r. ⌜ r
+        ≡ answerCode (readIntoAs (now (settings .entry)) 5 (length (now (out .entry)))
+        (ops.readValues place) (state (now (chart .entry)) [] (now (values .entry))) .answer) ⌝ }
+    ensures out { λ _. ⌜ now (out .exit)
+        ≡ put 0 (numbersOf (readIntoAs (now (settings .entry)) 5 (length (now (out .entry))) (ops.readValues place)
+        (state (now (chart .entry)) [] (now (values .entry))) .answer))
+        (now (out .entry)) ⌝ }
+    ensures leaves { λ _. ⌜ state (now (chart .exit)) [] (now (values .exit)) ≡ state (now (chart .entry)) [] (now (values .entry)) ⌝ }
+    ensures settings { λ _. ⌜ now (settings .exit) ≡ now (settings .entry) ⌝ }
+{
+    match values_into(chart, settings, values, place, out.len()) {
+        ValuesAnswer::Refused(r) => code(r),
+        ValuesAnswer::Values(v) => {
+            eval_values::put_values(out, 0, v);
             0
         }
     }
-}
-
-// The values of a place, for an answer with as much room.
-fn values_into(chart: &[u8], values: &[f64], place: usize, room: usize) -> ValuesAnswer
-    ensures { λ r. ⌜ result (valuesAnswer r) (now (chart .exit)) [] (now (values .exit))
-        ≡ readInto 5 room (ops.readValues place) (state (now (chart .entry)) [] (now (values .entry))) ⌝ }
-{
-    if room < calls::VALUE_WIDTH {
-        return ValuesAnswer::Refused(no_room(chart));
-    }
-    readings::read_values(chart, values, place)
 }
 
 // Writes the five values of a place, as the table has them.
@@ -210,24 +398,27 @@ pub extern "C" fn difficulty_read_values(
         (now (out .entry)) ⌝ }
     ensures leaves { λ _. ⌜ state (now (chart .exit)) [] (now (values .exit)) ≡ state (now (chart .entry)) [] (now (values .entry)) ⌝ }
 {
-    match values_into(chart, values, place, out.len()) {
-        ValuesAnswer::Refused(r) => code(r),
-        ValuesAnswer::Values(v) => {
-            eval_values::put_values(out, 0, v);
-            0
-        }
+    if chart.len() < chart_fields::HEADER_SIZE {
+        return code(Refusal::Header);
     }
+    difficulty_read_values_as(
+        chart,
+        &chart[32..80],
+        values,
+        place,
+        out,
+    )
 }
 
-// Aim in its parts at a place, for an answer with as much room.
-fn aim_into(chart: &[u8], records: &[f64], place: usize, room: usize) -> AimAnswer
+// Aim in its parts at a place, for the second player and an answer with as much room.
+fn aim_into(chart: &[u8], settings: &[u8], records: &[f64], place: usize, room: usize) -> AimAnswer
     ensures { λ r. ⌜ result (aimAnswer r) (now (chart .exit)) (now (records .exit)) []
-        ≡ readInto aimWidth room (ops.readDetail kinds.aimParts place) (state (now (chart .entry)) (now (records .entry)) []) ⌝ }
+        ≡ readIntoAs (now (settings .entry)) aimWidth room (ops.readDetail kinds.aimParts place) (state (now (chart .entry)) (now (records .entry)) []) ⌝ }
 {
     if room < AIM_WIDTH {
-        return AimAnswer::Refused(no_room(chart));
+        return AimAnswer::Refused(no_room(chart, settings));
     }
-    readings::read_aim_parts(chart, records, place)
+    readings::read_aim_parts_as(chart, settings, records, place)
 }
 
 // The rule that answered, as a number.
@@ -273,6 +464,32 @@ fn put_aim(out: &mut [f64], d: AimDetail)
     out[17] = without;
 }
 
+// Writes aim's value at a place with its parts and the rule that answered, and the same without sliders, for the second player with these settings.
+#[no_mangle]
+pub extern "C" fn difficulty_read_aim_parts_as(
+    chart: &[u8],
+    settings: &[u8],
+    records: &[f64],
+    place: usize,
+    out: &mut [f64],
+) -> u64
+    ensures answer { λ r. ⌜ r ≡ answerCode (readIntoAs (now (settings .entry)) aimWidth (length (now (out .entry))) (ops.readDetail kinds.aimParts place)
+        (state (now (chart .entry)) (now (records .entry)) []) .answer) ⌝ }
+    ensures out { λ _. ⌜ now (out .exit) ≡ put 0 (numbersOf (readIntoAs (now (settings .entry)) aimWidth (length (now (out .entry)))
+        (ops.readDetail kinds.aimParts place)
+        (state (now (chart .entry)) (now (records .entry)) []) .answer)) (now (out .entry)) ⌝ }
+    ensures leaves { λ _. ⌜ state (now (chart .exit)) (now (records .exit)) [] ≡ state (now (chart .entry)) (now (records .entry)) [] ⌝ }
+    ensures settings { λ _. ⌜ now (settings .exit) ≡ now (settings .entry) ⌝ }
+{
+    match aim_into(chart, settings, records, place, out.len()) {
+        AimAnswer::Refused(r) => code(r),
+        AimAnswer::Aim(d) => {
+            put_aim(out, d);
+            0
+        }
+    }
+}
+
 // Writes aim's value at a place with its parts and the rule that answered, and the same without sliders.
 #[no_mangle]
 pub extern "C" fn difficulty_read_aim_parts(
@@ -287,24 +504,54 @@ pub extern "C" fn difficulty_read_aim_parts(
         (state (now (chart .entry)) (now (records .entry)) []) .answer)) (now (out .entry)) ⌝ }
     ensures leaves { λ _. ⌜ state (now (chart .exit)) (now (records .exit)) [] ≡ state (now (chart .entry)) (now (records .entry)) [] ⌝ }
 {
-    match aim_into(chart, records, place, out.len()) {
-        AimAnswer::Refused(r) => code(r),
-        AimAnswer::Aim(d) => {
-            put_aim(out, d);
+    if chart.len() < chart_fields::HEADER_SIZE {
+        return code(Refusal::Header);
+    }
+    difficulty_read_aim_parts_as(
+        chart,
+        &chart[32..80],
+        records,
+        place,
+        out,
+    )
+}
+
+// The rhythm value of a place with its comparisons, for the second player and an answer with as much room.
+fn rhythm_into(chart: &[u8], settings: &[u8], records: &[f64], place: usize, room: usize) -> RhythmAnswer
+    ensures { λ r. ⌜ result (rhythmAnswer r) (now (chart .exit)) (now (records .exit)) []
+        ≡ readIntoAs (now (settings .entry)) rhythmWidth room (ops.readDetail kinds.rhythm place) (state (now (chart .entry)) (now (records .entry)) []) ⌝ }
+{
+    if room < RHYTHM_WIDTH {
+        return RhythmAnswer::Refused(no_room(chart, settings));
+    }
+    readings::read_rhythm_as(chart, settings, records, place)
+}
+
+// Writes the rhythm value of a place, and how often an island was compared with a kept one for it, for the second player with these settings.
+#[no_mangle]
+pub extern "C" fn difficulty_read_rhythm_as(
+    chart: &[u8],
+    settings: &[u8],
+    records: &[f64],
+    place: usize,
+    out: &mut [f64],
+) -> u64
+    ensures answer { λ r. ⌜ r ≡ answerCode (readIntoAs (now (settings .entry)) rhythmWidth (length (now (out .entry))) (ops.readDetail kinds.rhythm place)
+        (state (now (chart .entry)) (now (records .entry)) []) .answer) ⌝ }
+    ensures out { λ _. ⌜ now (out .exit) ≡ put 0 (numbersOf (readIntoAs (now (settings .entry)) rhythmWidth (length (now (out .entry)))
+        (ops.readDetail kinds.rhythm place)
+        (state (now (chart .entry)) (now (records .entry)) []) .answer)) (now (out .entry)) ⌝ }
+    ensures leaves { λ _. ⌜ state (now (chart .exit)) (now (records .exit)) [] ≡ state (now (chart .entry)) (now (records .entry)) [] ⌝ }
+    ensures settings { λ _. ⌜ now (settings .exit) ≡ now (settings .entry) ⌝ }
+{
+    match rhythm_into(chart, settings, records, place, out.len()) {
+        RhythmAnswer::Refused(r) => code(r),
+        RhythmAnswer::Rhythm(c) => {
+            out[0] = c.value;
+            out[1] = c.comparisons as u32 as f64;
             0
         }
     }
-}
-
-// The rhythm value of a place with its comparisons, for an answer with as much room.
-fn rhythm_into(chart: &[u8], records: &[f64], place: usize, room: usize) -> RhythmAnswer
-    ensures { λ r. ⌜ result (rhythmAnswer r) (now (chart .exit)) (now (records .exit)) []
-        ≡ readInto rhythmWidth room (ops.readDetail kinds.rhythm place) (state (now (chart .entry)) (now (records .entry)) []) ⌝ }
-{
-    if room < RHYTHM_WIDTH {
-        return RhythmAnswer::Refused(no_room(chart));
-    }
-    readings::read_rhythm(chart, records, place)
 }
 
 // Writes the rhythm value of a place, and how often an island was compared with a kept one for it.
@@ -321,29 +568,33 @@ pub extern "C" fn difficulty_read_rhythm(
         (state (now (chart .entry)) (now (records .entry)) []) .answer)) (now (out .entry)) ⌝ }
     ensures leaves { λ _. ⌜ state (now (chart .exit)) (now (records .exit)) [] ≡ state (now (chart .entry)) (now (records .entry)) [] ⌝ }
 {
-    match rhythm_into(chart, records, place, out.len()) {
-        RhythmAnswer::Refused(r) => code(r),
-        RhythmAnswer::Rhythm(c) => {
-            out[0] = c.value;
-            out[1] = c.comparisons as u32 as f64;
-            0
-        }
+    if chart.len() < chart_fields::HEADER_SIZE {
+        return code(Refusal::Header);
     }
+    difficulty_read_rhythm_as(
+        chart,
+        &chart[32..80],
+        records,
+        place,
+        out,
+    )
 }
 
-// Why a figure without room is refused.
-fn refuse_sums(chart: &[u8], entries: usize) -> Refusal
-    ensures { λ r. ⌜ Refused r ≡ sumVerdict (now (chart .entry)) entries true ⌝ }
+// Why a figure of the second player without room is refused.
+fn refuse_sums(chart: &[u8], settings: &[u8], entries: usize) -> Refusal
+    ensures { λ r. ⌜ Refused r ≡ secondVerdict (now (settings .entry)) (now (chart .entry))
+        (sumVerdict (under (now (settings .entry)) (now (chart .entry))) entries true) ⌝ }
 {
-    match chart_opening::check(chart, entries) {
+    match chart_players::check_as(chart, settings, entries) {
         Verdict::Refused(r) => r,
         Verdict::Accepted => Refusal::Table,
     }
 }
 
-// The totals, where the answer has room or is cramped.
+// The totals, for the second player, where the answer has room or is cramped.
 fn totals_into(
     chart: &[u8],
+    settings: &[u8],
     values: &[f64],
     aim: &mut [f64],
     aim_no_sliders: &mut [f64],
@@ -352,16 +603,26 @@ fn totals_into(
     cramped: bool,
 ) -> TotalsAnswer
     ensures answer { λ r. ⌜ result (totalsAnswer r) (now (chart .exit)) [] (now (values .exit))
-        ≡ figureInto kinds.totals cramped (scratchOf (now (aim .entry)) (now («aim_no_sliders» .entry)) (now (speed .entry)) (now (flashlight .entry)))
+        ≡ figureIntoAs (now (settings .entry)) kinds.totals cramped
+        (scratchOf (now (aim .entry)) (now («aim_no_sliders» .entry)) (now (speed .entry)) (now (flashlight .entry)))
         (state (now (chart .entry)) [] (now (values .entry))) ⌝ }
     ensures scratch { λ _. ⌜ scratchOf (now (aim .exit)) (now («aim_no_sliders» .exit)) (now (speed .exit)) (now (flashlight .exit))
-        ≡ scratchInto kinds.totals cramped (scratchOf (now (aim .entry)) (now («aim_no_sliders» .entry)) (now (speed .entry)) (now (flashlight .entry)))
+        ≡ scratchIntoAs (now (settings .entry)) kinds.totals cramped
+        (scratchOf (now (aim .entry)) (now («aim_no_sliders» .entry)) (now (speed .entry)) (now (flashlight .entry)))
         (state (now (chart .entry)) [] (now (values .entry))) ⌝ }
 {
     if cramped {
-        return TotalsAnswer::Refused(refuse_sums(chart, values.len() / calls::VALUE_WIDTH));
+        return TotalsAnswer::Refused(refuse_sums(chart, settings, values.len() / calls::VALUE_WIDTH));
     }
-    figures::totals(chart, values, aim, aim_no_sliders, speed, flashlight)
+    figures::totals_as(
+        chart,
+        settings,
+        values,
+        aim,
+        aim_no_sliders,
+        speed,
+        flashlight,
+    )
 }
 
 // Writes the four totals.
@@ -373,6 +634,51 @@ fn put_totals(out: &mut [f64], t: Skills)
     out[1] = t.aim_no_sliders;
     out[2] = t.speed;
     out[3] = t.flashlight;
+}
+
+// Writes the four totals over the values in the table; times come from the chart. Carried out, all scratch is 0. For the second player with these settings.
+#[no_mangle]
+pub extern "C" fn difficulty_totals_as(
+    chart: &[u8],
+    settings: &[u8],
+    values: &[f64],
+    aim: &mut [f64],
+    aim_no_sliders: &mut [f64],
+    speed: &mut [f64],
+    flashlight: &mut [f64],
+    out: &mut [f64],
+) -> u64
+    ensures answer { λ r. ⌜ r
+        ≡ answerCode (figureIntoAs (now (settings .entry)) kinds.totals (ltb (length (now (out .entry))) totalsWidth)
+        (scratchOf (now (aim .entry)) (now («aim_no_sliders» .entry)) (now (speed .entry)) (now (flashlight .entry)))
+        (state (now (chart .entry)) [] (now (values .entry))) .answer) ⌝ }
+    ensures scratch { λ _. ⌜ scratchOf (now (aim .exit)) (now («aim_no_sliders» .exit)) (now (speed .exit)) (now (flashlight .exit))
+        ≡ scratchIntoAs (now (settings .entry)) kinds.totals (ltb (length (now (out .entry))) totalsWidth)
+        (scratchOf (now (aim .entry)) (now («aim_no_sliders» .entry)) (now (speed .entry)) (now (flashlight .entry)))
+        (state (now (chart .entry)) [] (now (values .entry))) ⌝ }
+    ensures out { λ _. ⌜ now (out .exit)
+        ≡ put 0 (numbersOf (figureIntoAs (now (settings .entry)) kinds.totals (ltb (length (now (out .entry))) totalsWidth)
+        (scratchOf (now (aim .entry)) (now («aim_no_sliders» .entry)) (now (speed .entry)) (now (flashlight .entry)))
+        (state (now (chart .entry)) [] (now (values .entry))) .answer)) (now (out .entry)) ⌝ }
+    ensures leaves { λ _. ⌜ state (now (chart .exit)) [] (now (values .exit)) ≡ state (now (chart .entry)) [] (now (values .entry)) ⌝ }
+    ensures settings { λ _. ⌜ now (settings .exit) ≡ now (settings .entry) ⌝ }
+{
+    match totals_into(
+        chart,
+        settings,
+        values,
+        aim,
+        aim_no_sliders,
+        speed,
+        flashlight,
+        out.len() < TOTALS_WIDTH,
+    ) {
+        TotalsAnswer::Refused(r) => code(r),
+        TotalsAnswer::Totals(t) => {
+            put_totals(out, t);
+            0
+        }
+    }
 }
 
 // Writes the four totals over the values in the table; times come from the chart. Carried out, all scratch is 0.
@@ -400,9 +706,89 @@ pub extern "C" fn difficulty_totals(
         (state (now (chart .entry)) [] (now (values .entry))) .answer)) (now (out .entry)) ⌝ }
     ensures leaves { λ _. ⌜ state (now (chart .exit)) [] (now (values .exit)) ≡ state (now (chart .entry)) [] (now (values .entry)) ⌝ }
 {
-    match totals_into(
+    if chart.len() < chart_fields::HEADER_SIZE {
+        return code(Refusal::Header);
+    }
+    difficulty_totals_as(
         chart,
+        &chart[32..80],
         values,
+        aim,
+        aim_no_sliders,
+        speed,
+        flashlight,
+        out,
+    )
+}
+
+// The totals after the first m objects, for the second player, where the answer has room or is cramped.
+fn totals_to_into(
+    chart: &[u8],
+    settings: &[u8],
+    values: &[f64],
+    m: usize,
+    aim: &mut [f64],
+    aim_no_sliders: &mut [f64],
+    speed: &mut [f64],
+    flashlight: &mut [f64],
+    cramped: bool,
+) -> TotalsAnswer
+    ensures answer { λ r. ⌜ result (totalsAnswer r) (now (chart .exit)) [] (now (values .exit))
+        ≡ figureIntoAs (now (settings .entry)) (kinds.totalsTo m) cramped
+        (scratchOf (now (aim .entry)) (now («aim_no_sliders» .entry)) (now (speed .entry)) (now (flashlight .entry)))
+        (state (now (chart .entry)) [] (now (values .entry))) ⌝ }
+    ensures scratch { λ _. ⌜ scratchOf (now (aim .exit)) (now («aim_no_sliders» .exit)) (now (speed .exit)) (now (flashlight .exit))
+        ≡ scratchIntoAs (now (settings .entry)) (kinds.totalsTo m) cramped
+        (scratchOf (now (aim .entry)) (now («aim_no_sliders» .entry)) (now (speed .entry)) (now (flashlight .entry)))
+        (state (now (chart .entry)) [] (now (values .entry))) ⌝ }
+{
+    if cramped {
+        return TotalsAnswer::Refused(refuse_sums(chart, settings, values.len() / calls::VALUE_WIDTH));
+    }
+    figures::totals_to_as(
+        chart,
+        settings,
+        values,
+        m,
+        aim,
+        aim_no_sliders,
+        speed,
+        flashlight,
+    )
+}
+
+// Writes the four totals reached after the first m objects. Carried out, all scratch is 0. For the second player with these settings.
+#[no_mangle]
+pub extern "C" fn difficulty_totals_to_as(
+    chart: &[u8],
+    settings: &[u8],
+    values: &[f64],
+    m: usize,
+    aim: &mut [f64],
+    aim_no_sliders: &mut [f64],
+    speed: &mut [f64],
+    flashlight: &mut [f64],
+    out: &mut [f64],
+) -> u64
+    ensures answer { λ r. ⌜ r ≡ answerCode (figureIntoAs (now (settings .entry)) (kinds.totalsTo m) (ltb (length (now (out .entry))) totalsWidth)
+        (scratchOf (now (aim .entry)) (now («aim_no_sliders» .entry)) (now (speed .entry)) (now (flashlight .entry)))
+        (state (now (chart .entry)) [] (now (values .entry))) .answer) ⌝ }
+    ensures scratch { λ _. ⌜ scratchOf (now (aim .exit)) (now («aim_no_sliders» .exit)) (now (speed .exit)) (now (flashlight .exit))
+        ≡ scratchIntoAs (now (settings .entry)) (kinds.totalsTo m) (ltb (length (now (out .entry))) totalsWidth)
+        (scratchOf (now (aim .entry)) (now («aim_no_sliders» .entry)) (now (speed .entry)) (now (flashlight .entry)))
+        (state (now (chart .entry)) [] (now (values .entry))) ⌝ }
+    ensures out { λ _. ⌜ now (out .exit) ≡ put 0 (numbersOf (figureIntoAs (now (settings .entry)) (kinds.totalsTo m) (ltb
+        (length (now (out .entry))) totalsWidth)
+        (scratchOf (now (aim .entry)) (now («aim_no_sliders» .entry)) (now (speed .entry)) (now (flashlight .entry)))
+        (state (now (chart .entry)) [] (now (values .entry))) .answer)) (now (out .entry)) ⌝ }
+    ensures leaves { λ _. ⌜ state (now (chart .exit)) [] (now (values .exit)) ≡ state (now (chart .entry)) [] (now (values .entry)) ⌝ }
+    ensures settings { λ _. ⌜ now (settings .exit) ≡ now (settings .entry) ⌝ }
+{
+    match totals_to_into(
+        chart,
+        settings,
+        values,
+        m,
         aim,
         aim_no_sliders,
         speed,
@@ -415,30 +801,6 @@ pub extern "C" fn difficulty_totals(
             0
         }
     }
-}
-
-// The totals after the first m objects, where the answer has room or is cramped.
-fn totals_to_into(
-    chart: &[u8],
-    values: &[f64],
-    m: usize,
-    aim: &mut [f64],
-    aim_no_sliders: &mut [f64],
-    speed: &mut [f64],
-    flashlight: &mut [f64],
-    cramped: bool,
-) -> TotalsAnswer
-    ensures answer { λ r. ⌜ result (totalsAnswer r) (now (chart .exit)) [] (now (values .exit))
-        ≡ figureInto (kinds.totalsTo m) cramped (scratchOf (now (aim .entry)) (now («aim_no_sliders» .entry)) (now (speed .entry)) (now (flashlight .entry)))
-        (state (now (chart .entry)) [] (now (values .entry))) ⌝ }
-    ensures scratch { λ _. ⌜ scratchOf (now (aim .exit)) (now («aim_no_sliders» .exit)) (now (speed .exit)) (now (flashlight .exit))
-        ≡ scratchInto (kinds.totalsTo m) cramped (scratchOf (now (aim .entry)) (now («aim_no_sliders» .entry)) (now (speed .entry)) (now (flashlight .entry)))
-        (state (now (chart .entry)) [] (now (values .entry))) ⌝ }
-{
-    if cramped {
-        return TotalsAnswer::Refused(refuse_sums(chart, values.len() / calls::VALUE_WIDTH));
-    }
-    figures::totals_to(chart, values, m, aim, aim_no_sliders, speed, flashlight)
 }
 
 // Writes the four totals reached after the first m objects. Carried out, all scratch is 0.
@@ -465,21 +827,61 @@ pub extern "C" fn difficulty_totals_to(
         (state (now (chart .entry)) [] (now (values .entry))) .answer)) (now (out .entry)) ⌝ }
     ensures leaves { λ _. ⌜ state (now (chart .exit)) [] (now (values .exit)) ≡ state (now (chart .entry)) [] (now (values .entry)) ⌝ }
 {
-    match totals_to_into(
+    if chart.len() < chart_fields::HEADER_SIZE {
+        return code(Refusal::Header);
+    }
+    difficulty_totals_to_as(
         chart,
+        &chart[32..80],
         values,
         m,
         aim,
         aim_no_sliders,
         speed,
         flashlight,
-        out.len() < TOTALS_WIDTH,
+        out,
+    )
+}
+
+// Fills a list of four numbers an entry with the totals reached after every number of objects, from 0 to N. Carried out, all scratch is 0. For the second
+// player with these settings.
+#[no_mangle]
+pub extern "C" fn difficulty_totals_while_playing_as(
+    chart: &[u8],
+    settings: &[u8],
+    values: &[f64],
+    list: &mut [f64],
+    aim: &mut [f64],
+    aim_no_sliders: &mut [f64],
+    speed: &mut [f64],
+    flashlight: &mut [f64],
+) -> u64
+    ensures answer { λ r. ⌜ r ≡ verdictCode (verdictAs (now (settings .entry)) (ops.figure (kinds.playing (length (now (list .entry)) / totalsWidth)) (lengths
+        (scratchOf (now (aim .entry)) (now («aim_no_sliders» .entry)) (now (speed .entry)) (now (flashlight .entry)))))
+        (state (now (chart .entry)) [] (now (values .entry)))) ⌝ }
+    ensures list { λ _. ⌜ now (list .exit) ≡ listAfter (outcomeAs (now (settings .entry))
+        (ops.figure (kinds.playing (length (now (list .entry)) / totalsWidth)) (lengths
+        (scratchOf (now (aim .entry)) (now («aim_no_sliders» .entry)) (now (speed .entry)) (now (flashlight .entry)))))
+        (state (now (chart .entry)) [] (now (values .entry))) .answer) (now (list .entry)) ⌝ }
+    ensures leaves { λ _. ⌜ state (now (chart .exit)) [] (now (values .exit)) ≡ state (now (chart .entry)) [] (now (values .entry)) ⌝ }
+    ensures scratch { λ _. ⌜ scratchOf (now (aim .exit)) (now («aim_no_sliders» .exit)) (now (speed .exit)) (now (flashlight .exit))
+        ≡ scratchAfterAs (now (settings .entry)) (kinds.playing
+        (length (now (list .entry)) / totalsWidth)) (state (now (chart .entry)) [] (now (values .entry)))
+        (scratchOf (now (aim .entry)) (now («aim_no_sliders» .entry)) (now (speed .entry)) (now (flashlight .entry))) ⌝ }
+    ensures settings { λ _. ⌜ now (settings .exit) ≡ now (settings .entry) ⌝ }
+{
+    match figures::totals_while_playing_as(
+        chart,
+        settings,
+        values,
+        list,
+        aim,
+        aim_no_sliders,
+        speed,
+        flashlight,
     ) {
-        TotalsAnswer::Refused(r) => code(r),
-        TotalsAnswer::Totals(t) => {
-            put_totals(out, t);
-            0
-        }
+        Verdict::Refused(r) => code(r),
+        Verdict::Accepted => 0,
     }
 }
 
@@ -505,23 +907,25 @@ pub extern "C" fn difficulty_totals_while_playing(
         ≡ scratchAfter (kinds.playing (length (now (list .entry)) / totalsWidth)) (state (now (chart .entry)) [] (now (values .entry)))
         (scratchOf (now (aim .entry)) (now («aim_no_sliders» .entry)) (now (speed .entry)) (now (flashlight .entry))) ⌝ }
 {
-    match figures::totals_while_playing(
+    if chart.len() < chart_fields::HEADER_SIZE {
+        return code(Refusal::Header);
+    }
+    difficulty_totals_while_playing_as(
         chart,
+        &chart[32..80],
         values,
         list,
         aim,
         aim_no_sliders,
         speed,
         flashlight,
-    ) {
-        Verdict::Refused(r) => code(r),
-        Verdict::Accepted => 0,
-    }
+    )
 }
 
-// The seven counts, where the answer has room or is cramped.
+// The seven counts, for the second player, where the answer has room or is cramped.
 fn counts_into(
     chart: &[u8],
+    settings: &[u8],
     values: &[f64],
     aim: &mut [f64],
     aim_no_sliders: &mut [f64],
@@ -530,16 +934,26 @@ fn counts_into(
     cramped: bool,
 ) -> CountsAnswer
     ensures answer { λ r. ⌜ result (countsAnswer r) (now (chart .exit)) [] (now (values .exit))
-        ≡ figureInto kinds.counts cramped (scratchOf (now (aim .entry)) (now («aim_no_sliders» .entry)) (now (speed .entry)) (now (flashlight .entry)))
+        ≡ figureIntoAs (now (settings .entry)) kinds.counts cramped
+        (scratchOf (now (aim .entry)) (now («aim_no_sliders» .entry)) (now (speed .entry)) (now (flashlight .entry)))
         (state (now (chart .entry)) [] (now (values .entry))) ⌝ }
     ensures scratch { λ _. ⌜ scratchOf (now (aim .exit)) (now («aim_no_sliders» .exit)) (now (speed .exit)) (now (flashlight .exit))
-        ≡ scratchInto kinds.counts cramped (scratchOf (now (aim .entry)) (now («aim_no_sliders» .entry)) (now (speed .entry)) (now (flashlight .entry)))
+        ≡ scratchIntoAs (now (settings .entry)) kinds.counts cramped
+        (scratchOf (now (aim .entry)) (now («aim_no_sliders» .entry)) (now (speed .entry)) (now (flashlight .entry)))
         (state (now (chart .entry)) [] (now (values .entry))) ⌝ }
 {
     if cramped {
-        return CountsAnswer::Refused(refuse_sums(chart, values.len() / calls::VALUE_WIDTH));
+        return CountsAnswer::Refused(refuse_sums(chart, settings, values.len() / calls::VALUE_WIDTH));
     }
-    figures::counts(chart, values, aim, aim_no_sliders, speed, flashlight)
+    figures::counts_as(
+        chart,
+        settings,
+        values,
+        aim,
+        aim_no_sliders,
+        speed,
+        flashlight,
+    )
 }
 
 // Writes the seven counts.
@@ -554,6 +968,49 @@ fn put_counts(out: &mut [f64], c: ObjectCounts)
     out[4] = c.speed_top_weighted_slider_count;
     out[5] = c.aim_difficult_slider_count;
     out[6] = c.speed_note_count;
+}
+
+// Writes how many objects carry the chart, seven counts. Carried out, all scratch is 0. For the second player with these settings.
+#[no_mangle]
+pub extern "C" fn difficulty_counts_as(
+    chart: &[u8],
+    settings: &[u8],
+    values: &[f64],
+    aim: &mut [f64],
+    aim_no_sliders: &mut [f64],
+    speed: &mut [f64],
+    flashlight: &mut [f64],
+    out: &mut [f64],
+) -> u64
+    ensures answer { λ r. ⌜ r ≡ answerCode (figureIntoAs (now (settings .entry)) kinds.counts (ltb (length (now (out .entry))) countsWidth)
+        (scratchOf (now (aim .entry)) (now («aim_no_sliders» .entry)) (now (speed .entry)) (now (flashlight .entry)))
+        (state (now (chart .entry)) [] (now (values .entry))) .answer) ⌝ }
+    ensures scratch { λ _. ⌜ scratchOf (now (aim .exit)) (now («aim_no_sliders» .exit)) (now (speed .exit)) (now (flashlight .exit))
+        ≡ scratchIntoAs (now (settings .entry)) kinds.counts (ltb (length (now (out .entry))) countsWidth)
+        (scratchOf (now (aim .entry)) (now («aim_no_sliders» .entry)) (now (speed .entry)) (now (flashlight .entry)))
+        (state (now (chart .entry)) [] (now (values .entry))) ⌝ }
+    ensures out { λ _. ⌜ now (out .exit) ≡ put 0 (numbersOf (figureIntoAs (now (settings .entry)) kinds.counts (ltb (length (now (out .entry))) countsWidth)
+        (scratchOf (now (aim .entry)) (now («aim_no_sliders» .entry)) (now (speed .entry)) (now (flashlight .entry)))
+        (state (now (chart .entry)) [] (now (values .entry))) .answer)) (now (out .entry)) ⌝ }
+    ensures leaves { λ _. ⌜ state (now (chart .exit)) [] (now (values .exit)) ≡ state (now (chart .entry)) [] (now (values .entry)) ⌝ }
+    ensures settings { λ _. ⌜ now (settings .exit) ≡ now (settings .entry) ⌝ }
+{
+    match counts_into(
+        chart,
+        settings,
+        values,
+        aim,
+        aim_no_sliders,
+        speed,
+        flashlight,
+        out.len() < COUNTS_WIDTH,
+    ) {
+        CountsAnswer::Refused(r) => code(r),
+        CountsAnswer::Counts(c) => {
+            put_counts(out, c);
+            0
+        }
+    }
 }
 
 // Writes how many objects carry the chart, seven counts. Carried out, all scratch is 0.
@@ -579,21 +1036,19 @@ pub extern "C" fn difficulty_counts(
         (state (now (chart .entry)) [] (now (values .entry))) .answer)) (now (out .entry)) ⌝ }
     ensures leaves { λ _. ⌜ state (now (chart .exit)) [] (now (values .exit)) ≡ state (now (chart .entry)) [] (now (values .entry)) ⌝ }
 {
-    match counts_into(
+    if chart.len() < chart_fields::HEADER_SIZE {
+        return code(Refusal::Header);
+    }
+    difficulty_counts_as(
         chart,
+        &chart[32..80],
         values,
         aim,
         aim_no_sliders,
         speed,
         flashlight,
-        out.len() < COUNTS_WIDTH,
-    ) {
-        CountsAnswer::Refused(r) => code(r),
-        CountsAnswer::Counts(c) => {
-            put_counts(out, c);
-            0
-        }
-    }
+        out,
+    )
 }
 
 // Number i of those that come with ratings; a NaN where there are fewer.
@@ -631,9 +1086,10 @@ fn ratings_cramped(room: usize, numbers: usize) -> bool
     (room < RATINGS_WIDTH) | (numbers < NUMBERS_WIDTH)
 }
 
-// The ratings and the stars, where the answer has room or is cramped.
+// The ratings and the stars, for the second player, where the answer has room or is cramped.
 fn ratings_into(
     chart: &[u8],
+    settings: &[u8],
     values: &[f64],
     asked: Asked,
     aim: &mut [f64],
@@ -643,17 +1099,27 @@ fn ratings_into(
     cramped: bool,
 ) -> RatingsAnswer
     ensures answer { λ r. ⌜ result (ratingsAnswer r) (now (chart .exit)) [] (now (values .exit))
-        ≡ figureInto (kinds.ratings asked) cramped (scratchOf (now (aim .entry)) (now («aim_no_sliders» .entry)) (now (speed .entry)) (now (flashlight .entry)))
+        ≡ figureIntoAs (now (settings .entry)) (kinds.ratings asked) cramped
+        (scratchOf (now (aim .entry)) (now («aim_no_sliders» .entry)) (now (speed .entry)) (now (flashlight .entry)))
         (state (now (chart .entry)) [] (now (values .entry))) ⌝ }
     ensures scratch { λ _. ⌜ scratchOf (now (aim .exit)) (now («aim_no_sliders» .exit)) (now (speed .exit)) (now (flashlight .exit))
-        ≡ scratchInto (kinds.ratings asked) cramped
+        ≡ scratchIntoAs (now (settings .entry)) (kinds.ratings asked) cramped
         (scratchOf (now (aim .entry)) (now («aim_no_sliders» .entry)) (now (speed .entry)) (now (flashlight .entry)))
         (state (now (chart .entry)) [] (now (values .entry))) ⌝ }
 {
     if cramped {
-        return RatingsAnswer::Refused(refuse_sums(chart, values.len() / calls::VALUE_WIDTH));
+        return RatingsAnswer::Refused(refuse_sums(chart, settings, values.len() / calls::VALUE_WIDTH));
     }
-    figures::ratings(chart, values, asked, aim, aim_no_sliders, speed, flashlight)
+    figures::ratings_as(
+        chart,
+        settings,
+        values,
+        asked,
+        aim,
+        aim_no_sliders,
+        speed,
+        flashlight,
+    )
 }
 
 // Writes the three ratings and the stars.
@@ -665,6 +1131,60 @@ fn put_ratings(out: &mut [f64], r: Ratings)
     out[1] = r.speed;
     out[2] = r.flashlight;
     out[3] = r.stars;
+}
+
+// Writes aim, speed and flashlight ratings and the stars, under mods and with numbers that come with the call. Carried out, all scratch is 0. For the
+// second player with these settings.
+#[no_mangle]
+pub extern "C" fn difficulty_ratings_as(
+    chart: &[u8],
+    settings: &[u8],
+    values: &[f64],
+    mods: u32,
+    given: u32,
+    numbers: &[f64],
+    aim: &mut [f64],
+    aim_no_sliders: &mut [f64],
+    speed: &mut [f64],
+    flashlight: &mut [f64],
+    out: &mut [f64],
+) -> u64
+    ensures answer { λ r. ⌜ r ≡ answerCode (figureIntoAs (now (settings .entry)) (kinds.ratings (askedOf mods given (now (numbers .entry))))
+        (ratingsCramped (length (now (out .entry))) (length (now (numbers .entry))))
+        (scratchOf (now (aim .entry)) (now («aim_no_sliders» .entry)) (now (speed .entry)) (now (flashlight .entry)))
+        (state (now (chart .entry)) [] (now (values .entry))) .answer) ⌝ }
+    ensures scratch { λ _. ⌜ scratchOf (now (aim .exit)) (now («aim_no_sliders» .exit)) (now (speed .exit)) (now (flashlight .exit))
+        ≡ scratchIntoAs (now (settings .entry)) (kinds.ratings (askedOf mods given (now (numbers .entry))))
+        (ratingsCramped (length (now (out .entry))) (length (now (numbers .entry))))
+        (scratchOf (now (aim .entry)) (now («aim_no_sliders» .entry)) (now (speed .entry)) (now (flashlight .entry)))
+        (state (now (chart .entry)) [] (now (values .entry))) ⌝ }
+    ensures out { λ _. ⌜ now (out .exit) ≡ put 0 (numbersOf (figureIntoAs (now (settings .entry)) (kinds.ratings (askedOf mods given (now (numbers .entry))))
+        (ratingsCramped (length (now (out .entry))) (length (now (numbers .entry))))
+        (scratchOf (now (aim .entry)) (now («aim_no_sliders» .entry)) (now (speed .entry)) (now (flashlight .entry)))
+        (state (now (chart .entry)) [] (now (values .entry))) .answer)) (now (out .entry)) ⌝ }
+    ensures leaves { λ _. ⌜ state (now (chart .exit)) [] (now (values .exit)) ≡ state (now (chart .entry)) [] (now (values .entry)) ⌝ }
+    ensures numbers { λ _. ⌜ now (numbers .exit) ≡ now (numbers .entry) ⌝ }
+    ensures settings { λ _. ⌜ now (settings .exit) ≡ now (settings .entry) ⌝ }
+{
+    let cramped = ratings_cramped(out.len(), numbers.len());
+    let asked = asked_of(mods, given, numbers);
+    match ratings_into(
+        chart,
+        settings,
+        values,
+        asked,
+        aim,
+        aim_no_sliders,
+        speed,
+        flashlight,
+        cramped,
+    ) {
+        RatingsAnswer::Refused(r) => code(r),
+        RatingsAnswer::Ratings(x) => {
+            put_ratings(out, x);
+            0
+        }
+    }
 }
 
 // Writes aim, speed and flashlight ratings and the stars, under mods and with numbers that come with the call. Carried out, all scratch is 0.
@@ -696,22 +1216,20 @@ pub extern "C" fn difficulty_ratings(
     ensures leaves { λ _. ⌜ state (now (chart .exit)) [] (now (values .exit)) ≡ state (now (chart .entry)) [] (now (values .entry)) ⌝ }
     ensures numbers { λ _. ⌜ now (numbers .exit) ≡ now (numbers .entry) ⌝ }
 {
-    let cramped = ratings_cramped(out.len(), numbers.len());
-    let asked = asked_of(mods, given, numbers);
-    match ratings_into(
+    if chart.len() < chart_fields::HEADER_SIZE {
+        return code(Refusal::Header);
+    }
+    difficulty_ratings_as(
         chart,
+        &chart[32..80],
         values,
-        asked,
+        mods,
+        given,
+        numbers,
         aim,
         aim_no_sliders,
         speed,
         flashlight,
-        cramped,
-    ) {
-        RatingsAnswer::Refused(r) => code(r),
-        RatingsAnswer::Ratings(x) => {
-            put_ratings(out, x);
-            0
-        }
-    }
+        out,
+    )
 }
