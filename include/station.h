@@ -1,4 +1,4 @@
-/* Chart difficulty for an editing station: thirteen calls on a chart and its two tables.
+/* Chart difficulty for an editing station: thirteen calls on a chart and its two tables, and thirteen for a second player over the same chart.
  *
  * Lent by the caller, kept by the caller: no call allocates, keeps a pointer after it has returned, prints, or stops the program.
  *   chart    a buffer whose first bytes are the chart (docs/FORMAT.md), as many as the chart's own length field says; N is its count of objects.
@@ -9,6 +9,7 @@
  *   list     DIFFICULTY_TOTALS numbers an entry: at least 4 * (N + 1) numbers, for the totals while playing
  *   numbers  the DIFFICULTY_NUMBERS numbers that come with a call for ratings
  *   out      room for the numbers that a call answers
+ *   settings  the second player's settings, DIFFICULTY_SETTINGS bytes; "Two players over one chart" below says what they are
  * Entry j of a table belongs to place j, from 1 to N - 1. Entry 0 and entries from N on, as N is after the call, are never written; nor are bytes of the
  * buffer behind the length that the chart has after the call.
  *
@@ -32,7 +33,7 @@
  *     stops the program. station_guarded.h has the same calls for a host that cannot be sure of this.
  * Nothing is assumed of the contents or of the lengths. Two threads may call at once on slices of their own. A call may raise floating-point flags.
  *
- * Lengths count elements: bytes for chart and object, numbers for all else.
+ * Lengths count elements: bytes for chart, object and settings, numbers for all else.
  */
 #ifndef STATION_H
 #define STATION_H
@@ -48,6 +49,7 @@ enum {
     DIFFICULTY_OBJECT = 56,         /* bytes of an object in a chart without stated lengths, whose word at 28 is 0 */
     DIFFICULTY_STATED_OBJECT = 64,  /* bytes of an object in a chart with stated lengths, whose word at 28 is 1 */
     DIFFICULTY_MOST = 16384,        /* objects of a chart at most */
+    DIFFICULTY_SETTINGS = 48,       /* bytes of a player's settings; the first player's begin at byte 32 of the chart */
     DIFFICULTY_RECORD = 16,         /* numbers of a record */
     DIFFICULTY_VALUES = 5,          /* values of a place */
     DIFFICULTY_AIM = 18,            /* numbers of aim with its parts */
@@ -225,6 +227,112 @@ uint64_t difficulty_ratings(const uint8_t *chart, size_t chart_length,
                             double *speed, size_t speed_length,
                             double *flashlight, size_t flashlight_length,
                             double *out, size_t out_length);
+
+/* Two players over one chart, say at normal and at double speed: both play the same objects, each with settings and tables of their own.
+ *
+ * The first player's settings are the header's, bytes 32 to 79 of the chart, and all calls above are that player's. The second player's are 48 bytes of the same
+ * form that come with each call: five doubles, the factor and the flags, as docs/FORMAT.md has them from offset 32 on. For double speed they are a copy of the
+ * header's with twice its clock rate. No call writes to them.
+ *
+ * A call whose name ends in _as takes and answers what the call without it does, as if these bytes stood in the header, with the second player's tables; the
+ * header's own settings are not read. Settings of any other length are 2, right after 1, in every call; 1 is then that of the rest of the header. A reserved
+ * bit set in their flags is 1. An `out` that is too short is 7, tried behind both.
+ *
+ * An edit whose name ends in _both brings the tables of both players up to date. One that is refused under either player's settings is refused for both and
+ * changes nothing; the answer is the first player's refusal, and the second's where the first has none. An edit by a call for the first player alone leaves
+ * the second player's tables behind the chart, until difficulty_open_as makes them anew.
+ *
+ * A player whose settings have changed is opened anew: difficulty_open writes nothing of the second player's tables, difficulty_open_as nothing of the first's.
+ * All other calls need settings as that player's last opening had them; with others they answer, and edits leave, what follows from what the tables hold. */
+
+/* Checks a chart under the second player's settings and fills that player's tables.
+ * Conditions 1, 2 for settings of another length, then 2 to 7. Writes entries 1 to N - 1 of records and values. */
+uint64_t difficulty_open_as(const uint8_t *chart, size_t chart_length, const uint8_t *settings, size_t settings_length,
+                            double *records, size_t records_length,
+                            double *values, size_t values_length);
+
+/* The edits for both players. Each tries the conditions of the edit for one player, all of the first player's before the second's, with each player's
+ * settings and tables. It writes to the chart, and to the tables of each player, what the edit for one player writes.
+ * The tables must be those of this chart, each player's under that player's settings. */
+uint64_t difficulty_replace_both(uint8_t *chart, size_t chart_length, const uint8_t *settings, size_t settings_length, size_t place,
+                                 const uint8_t *object, size_t object_length,
+                                 double *records, size_t records_length,
+                                 double *values, size_t values_length,
+                                 double *second_records, size_t second_records_length,
+                                 double *second_values, size_t second_values_length);
+
+uint64_t difficulty_insert_both(uint8_t *chart, size_t chart_length, const uint8_t *settings, size_t settings_length, size_t place,
+                                const uint8_t *object, size_t object_length,
+                                double *records, size_t records_length,
+                                double *values, size_t values_length,
+                                double *second_records, size_t second_records_length,
+                                double *second_values, size_t second_values_length);
+
+uint64_t difficulty_remove_both(uint8_t *chart, size_t chart_length, const uint8_t *settings, size_t settings_length, size_t place,
+                                double *records, size_t records_length,
+                                double *values, size_t values_length,
+                                double *second_records, size_t second_records_length,
+                                double *second_values, size_t second_values_length);
+
+/* The readings for the second player: conditions 1, 2 for settings of another length, 7, 8. */
+uint64_t difficulty_read_record_as(const uint8_t *chart, size_t chart_length, const uint8_t *settings, size_t settings_length,
+                                   const double *records, size_t records_length, size_t place,
+                                   double *out, size_t out_length);
+
+uint64_t difficulty_read_values_as(const uint8_t *chart, size_t chart_length, const uint8_t *settings, size_t settings_length,
+                                   const double *values, size_t values_length, size_t place,
+                                   double *out, size_t out_length);
+
+uint64_t difficulty_read_aim_parts_as(const uint8_t *chart, size_t chart_length, const uint8_t *settings, size_t settings_length,
+                                      const double *records, size_t records_length, size_t place,
+                                      double *out, size_t out_length);
+
+uint64_t difficulty_read_rhythm_as(const uint8_t *chart, size_t chart_length, const uint8_t *settings, size_t settings_length,
+                                   const double *records, size_t records_length, size_t place,
+                                   double *out, size_t out_length);
+
+/* What is worked out over all values, for the second player: conditions 1, 2 for settings of another length, then as in the call without _as. */
+uint64_t difficulty_totals_as(const uint8_t *chart, size_t chart_length, const uint8_t *settings, size_t settings_length,
+                              const double *values, size_t values_length,
+                              double *aim, size_t aim_length,
+                              double *aim_no_sliders, size_t aim_no_sliders_length,
+                              double *speed, size_t speed_length,
+                              double *flashlight, size_t flashlight_length,
+                              double *out, size_t out_length);
+
+uint64_t difficulty_counts_as(const uint8_t *chart, size_t chart_length, const uint8_t *settings, size_t settings_length,
+                              const double *values, size_t values_length,
+                              double *aim, size_t aim_length,
+                              double *aim_no_sliders, size_t aim_no_sliders_length,
+                              double *speed, size_t speed_length,
+                              double *flashlight, size_t flashlight_length,
+                              double *out, size_t out_length);
+
+uint64_t difficulty_totals_to_as(const uint8_t *chart, size_t chart_length, const uint8_t *settings, size_t settings_length,
+                                 const double *values, size_t values_length,
+                                 size_t m,
+                                 double *aim, size_t aim_length,
+                                 double *aim_no_sliders, size_t aim_no_sliders_length,
+                                 double *speed, size_t speed_length,
+                                 double *flashlight, size_t flashlight_length,
+                                 double *out, size_t out_length);
+
+uint64_t difficulty_totals_while_playing_as(const uint8_t *chart, size_t chart_length, const uint8_t *settings, size_t settings_length,
+                                            const double *values, size_t values_length,
+                                            double *list, size_t list_length,
+                                            double *aim, size_t aim_length,
+                                            double *aim_no_sliders, size_t aim_no_sliders_length,
+                                            double *speed, size_t speed_length,
+                                            double *flashlight, size_t flashlight_length);
+
+uint64_t difficulty_ratings_as(const uint8_t *chart, size_t chart_length, const uint8_t *settings, size_t settings_length,
+                               const double *values, size_t values_length,
+                               uint32_t mods, uint32_t given, const double *numbers, size_t numbers_length,
+                               double *aim, size_t aim_length,
+                               double *aim_no_sliders, size_t aim_no_sliders_length,
+                               double *speed, size_t speed_length,
+                               double *flashlight, size_t flashlight_length,
+                               double *out, size_t out_length);
 
 #ifdef __cplusplus
 }

@@ -167,4 +167,152 @@ DIFFICULTY_GUARDED difficulty_guarded_ratings(const uint8_t *chart, size_t chart
                                                       flashlight, flashlight_length, out, out_length));
 }
 
+DIFFICULTY_GUARDED difficulty_guarded_open_as(const uint8_t *chart, size_t chart_length, const uint8_t *settings, size_t settings_length,
+                                              double *records, size_t records_length,
+                                              double *values, size_t values_length) {
+    fenv_t host;
+    difficulty_enter(&host);
+    return difficulty_leave(&host, difficulty_open_as(chart, chart_length, settings, settings_length, records, records_length, values, values_length));
+}
+
+DIFFICULTY_GUARDED difficulty_guarded_replace_both(uint8_t *chart, size_t chart_length, const uint8_t *settings, size_t settings_length, size_t place,
+                                                   const uint8_t *object, size_t object_length,
+                                                   double *records, size_t records_length,
+                                                   double *values, size_t values_length,
+                                                   double *second_records, size_t second_records_length,
+                                                   double *second_values, size_t second_values_length) {
+    fenv_t host;
+    difficulty_enter(&host);
+    return difficulty_leave(&host, difficulty_replace_both(chart, chart_length, settings, settings_length, place, object, object_length, records,
+                                                           records_length, values, values_length, second_records, second_records_length, second_values,
+                                                           second_values_length));
+}
+
+DIFFICULTY_GUARDED difficulty_guarded_insert_both(uint8_t *chart, size_t chart_length, const uint8_t *settings, size_t settings_length, size_t place,
+                                                  const uint8_t *object, size_t object_length,
+                                                  double *records, size_t records_length,
+                                                  double *values, size_t values_length,
+                                                  double *second_records, size_t second_records_length,
+                                                  double *second_values, size_t second_values_length) {
+    fenv_t host;
+    difficulty_enter(&host);
+    return difficulty_leave(&host, difficulty_insert_both(chart, chart_length, settings, settings_length, place, object, object_length, records,
+                                                          records_length, values, values_length, second_records, second_records_length, second_values,
+                                                          second_values_length));
+}
+
+DIFFICULTY_GUARDED difficulty_guarded_remove_both(uint8_t *chart, size_t chart_length, const uint8_t *settings, size_t settings_length, size_t place,
+                                                  double *records, size_t records_length,
+                                                  double *values, size_t values_length,
+                                                  double *second_records, size_t second_records_length,
+                                                  double *second_values, size_t second_values_length) {
+    fenv_t host;
+    difficulty_enter(&host);
+    return difficulty_leave(&host, difficulty_remove_both(chart, chart_length, settings, settings_length, place, records, records_length, values,
+                                                          values_length, second_records, second_records_length, second_values, second_values_length));
+}
+
+DIFFICULTY_GUARDED difficulty_guarded_read_record_as(const uint8_t *chart, size_t chart_length, const uint8_t *settings, size_t settings_length,
+                                                     const double *records, size_t records_length, size_t place,
+                                                     double *out, size_t out_length) {
+    fenv_t host;
+    difficulty_enter(&host);
+    return difficulty_leave(&host, difficulty_read_record_as(chart, chart_length, settings, settings_length, records, records_length, place, out, out_length));
+}
+
+DIFFICULTY_GUARDED difficulty_guarded_read_values_as(const uint8_t *chart, size_t chart_length, const uint8_t *settings, size_t settings_length,
+                                                     const double *values, size_t values_length, size_t place,
+                                                     double *out, size_t out_length) {
+    fenv_t host;
+    difficulty_enter(&host);
+    return difficulty_leave(&host, difficulty_read_values_as(chart, chart_length, settings, settings_length, values, values_length, place, out, out_length));
+}
+
+DIFFICULTY_GUARDED difficulty_guarded_read_aim_parts_as(const uint8_t *chart, size_t chart_length, const uint8_t *settings, size_t settings_length,
+                                                        const double *records, size_t records_length, size_t place,
+                                                        double *out, size_t out_length) {
+    fenv_t host;
+    difficulty_enter(&host);
+    return difficulty_leave(&host, difficulty_read_aim_parts_as(chart, chart_length, settings, settings_length, records, records_length, place, out,
+                                                                out_length));
+}
+
+DIFFICULTY_GUARDED difficulty_guarded_read_rhythm_as(const uint8_t *chart, size_t chart_length, const uint8_t *settings, size_t settings_length,
+                                                     const double *records, size_t records_length, size_t place,
+                                                     double *out, size_t out_length) {
+    fenv_t host;
+    difficulty_enter(&host);
+    return difficulty_leave(&host, difficulty_read_rhythm_as(chart, chart_length, settings, settings_length, records, records_length, place, out, out_length));
+}
+
+DIFFICULTY_GUARDED difficulty_guarded_totals_as(const uint8_t *chart, size_t chart_length, const uint8_t *settings, size_t settings_length,
+                                                const double *values, size_t values_length,
+                                                double *aim, size_t aim_length,
+                                                double *aim_no_sliders, size_t aim_no_sliders_length,
+                                                double *speed, size_t speed_length,
+                                                double *flashlight, size_t flashlight_length,
+                                                double *out, size_t out_length) {
+    fenv_t host;
+    difficulty_enter(&host);
+    return difficulty_leave(&host, difficulty_totals_as(chart, chart_length, settings, settings_length, values, values_length, aim, aim_length, aim_no_sliders,
+                                                        aim_no_sliders_length, speed, speed_length, flashlight, flashlight_length, out, out_length));
+}
+
+DIFFICULTY_GUARDED difficulty_guarded_counts_as(const uint8_t *chart, size_t chart_length, const uint8_t *settings, size_t settings_length,
+                                                const double *values, size_t values_length,
+                                                double *aim, size_t aim_length,
+                                                double *aim_no_sliders, size_t aim_no_sliders_length,
+                                                double *speed, size_t speed_length,
+                                                double *flashlight, size_t flashlight_length,
+                                                double *out, size_t out_length) {
+    fenv_t host;
+    difficulty_enter(&host);
+    return difficulty_leave(&host, difficulty_counts_as(chart, chart_length, settings, settings_length, values, values_length, aim, aim_length, aim_no_sliders,
+                                                        aim_no_sliders_length, speed, speed_length, flashlight, flashlight_length, out, out_length));
+}
+
+DIFFICULTY_GUARDED difficulty_guarded_totals_to_as(const uint8_t *chart, size_t chart_length, const uint8_t *settings, size_t settings_length,
+                                                   const double *values, size_t values_length,
+                                                   size_t m,
+                                                   double *aim, size_t aim_length,
+                                                   double *aim_no_sliders, size_t aim_no_sliders_length,
+                                                   double *speed, size_t speed_length,
+                                                   double *flashlight, size_t flashlight_length,
+                                                   double *out, size_t out_length) {
+    fenv_t host;
+    difficulty_enter(&host);
+    return difficulty_leave(&host, difficulty_totals_to_as(chart, chart_length, settings, settings_length, values, values_length, m, aim, aim_length,
+                                                           aim_no_sliders, aim_no_sliders_length, speed, speed_length, flashlight, flashlight_length, out,
+                                                           out_length));
+}
+
+DIFFICULTY_GUARDED difficulty_guarded_totals_while_playing_as(const uint8_t *chart, size_t chart_length, const uint8_t *settings, size_t settings_length,
+                                                              const double *values, size_t values_length,
+                                                              double *list, size_t list_length,
+                                                              double *aim, size_t aim_length,
+                                                              double *aim_no_sliders, size_t aim_no_sliders_length,
+                                                              double *speed, size_t speed_length,
+                                                              double *flashlight, size_t flashlight_length) {
+    fenv_t host;
+    difficulty_enter(&host);
+    return difficulty_leave(&host, difficulty_totals_while_playing_as(chart, chart_length, settings, settings_length, values, values_length, list, list_length,
+                                                                      aim, aim_length, aim_no_sliders, aim_no_sliders_length, speed, speed_length, flashlight,
+                                                                      flashlight_length));
+}
+
+DIFFICULTY_GUARDED difficulty_guarded_ratings_as(const uint8_t *chart, size_t chart_length, const uint8_t *settings, size_t settings_length,
+                                                 const double *values, size_t values_length,
+                                                 uint32_t mods, uint32_t given, const double *numbers, size_t numbers_length,
+                                                 double *aim, size_t aim_length,
+                                                 double *aim_no_sliders, size_t aim_no_sliders_length,
+                                                 double *speed, size_t speed_length,
+                                                 double *flashlight, size_t flashlight_length,
+                                                 double *out, size_t out_length) {
+    fenv_t host;
+    difficulty_enter(&host);
+    return difficulty_leave(&host, difficulty_ratings_as(chart, chart_length, settings, settings_length, values, values_length, mods, given, numbers,
+                                                         numbers_length, aim, aim_length, aim_no_sliders, aim_no_sliders_length, speed, speed_length,
+                                                         flashlight, flashlight_length, out, out_length));
+}
+
 #endif
