@@ -1,4 +1,5 @@
-/* Opens a chart, drags one of its objects a thousand times, puts one in and takes two out, and prints what a station would show. client.rs does the same.
+/* Opens a chart, drags one of its objects a thousand times, puts one in and takes two out, and prints what a station would show; then edits it for two players, the second at
+ * double and at half speed. client.rs does the same.
  * Every call is guarded: it gives the same bits whatever rounding, flushing or traps a host has set. */
 #include <inttypes.h>
 #include <math.h>
@@ -141,9 +142,103 @@ static void put_in_and_take_out(struct station *s, size_t place) {
     show(s, place - 1);
 }
 
+/* The second player: settings and tables of that player's own, as long as the first player's. */
+struct player {
+    uint8_t settings[DIFFICULTY_SETTINGS];
+    double *records, *values;
+};
+
+/* What each call for the second player is lent first, and the four tables of an edit for both. */
+#define SECOND(s, p) (s)->chart, (s)->length, (p)->settings, DIFFICULTY_SETTINGS
+#define TABLES(s, p) (s)->records, (s)->records_length, (s)->values, (s)->values_length, (p)->records, (s)->records_length, (p)->values, (s)->values_length
+
+/* The header's settings with its clock rate times a power of two. */
+static void set_speed(const struct station *s, struct player *p, double speed) {
+    double clock;
+    memcpy(p->settings, s->chart + 32, DIFFICULTY_SETTINGS);
+    memcpy(&clock, p->settings, 8);
+    clock *= speed;
+    memcpy(p->settings, &clock, 8);
+}
+
+static void open_second(struct station *s, struct player *p, size_t length) {
+    uint64_t answer = difficulty_guarded_open_as(s->chart, s->length, p->settings, length, p->records, s->records_length, p->values, s->values_length);
+    print_answer("opening", answer);
+}
+
+static void show_second(struct station *s, struct player *p, size_t place) {
+    double out[DIFFICULTY_AIM];
+    if (difficulty_guarded_read_values_as(SECOND(s, p), p->values, s->values_length, place, out, DIFFICULTY_VALUES) == 0)
+        print_numbers("values", out, DIFFICULTY_VALUES);
+    if (difficulty_guarded_read_record_as(SECOND(s, p), p->records, s->records_length, place, out, DIFFICULTY_RECORD) == 0)
+        print_numbers("record", out, DIFFICULTY_RECORD);
+    if (difficulty_guarded_read_aim_parts_as(SECOND(s, p), p->records, s->records_length, place, out, DIFFICULTY_AIM) == 0)
+        print_numbers("parts", out, DIFFICULTY_AIM);
+    if (difficulty_guarded_read_rhythm_as(SECOND(s, p), p->records, s->records_length, place, out, DIFFICULTY_RHYTHM) == 0)
+        print_numbers("rhythm", out, DIFFICULTY_RHYTHM);
+    uint64_t answer = difficulty_guarded_totals_as(SECOND(s, p), p->values, s->values_length, SCRATCH(s), out, DIFFICULTY_TOTALS);
+    print_figure("totals", answer, out, DIFFICULTY_TOTALS);
+    answer = difficulty_guarded_counts_as(SECOND(s, p), p->values, s->values_length, SCRATCH(s), out, DIFFICULTY_COUNTS);
+    print_figure("counts", answer, out, DIFFICULTY_COUNTS);
+    answer = difficulty_guarded_totals_to_as(SECOND(s, p), p->values, s->values_length, place, SCRATCH(s), out, DIFFICULTY_TOTALS);
+    print_figure("prefix", answer, out, DIFFICULTY_TOTALS);
+    const double numbers[DIFFICULTY_NUMBERS] = {9.5, 8.0, 1.14, INFINITY, 2.0};
+    answer = difficulty_guarded_ratings_as(SECOND(s, p), p->values, s->values_length, DIFFICULTY_HIDDEN | DIFFICULTY_FLASHLIGHT, DIFFICULTY_START_SCALE,
+                                           numbers, DIFFICULTY_NUMBERS, SCRATCH(s), out, DIFFICULTY_RATINGS);
+    print_figure("ratings", answer, out, DIFFICULTY_RATINGS);
+}
+
+/* The second player's totals while playing. */
+static void show_second_playing(struct station *s, struct player *p) {
+    size_t length = DIFFICULTY_TOTALS * (count_of(s) + 1);
+    double *list = claim(length, sizeof(double));
+    uint64_t answer = difficulty_guarded_totals_while_playing_as(SECOND(s, p), p->values, s->values_length, list, length, SCRATCH(s));
+    print_figure("prefixes", answer, list, length);
+    free(list);
+}
+
+/* Puts a circle at the last place for both players that starts so many milliseconds in, as the first player plays. */
+static void put_late(struct station *s, struct player *p, double milliseconds) {
+    uint8_t object[DIFFICULTY_STATED_OBJECT] = {0};
+    double clock, time;
+    memcpy(&clock, s->chart + 32, 8);
+    time = milliseconds * clock;
+    memcpy(object, &time, 8);
+    memcpy(object + 8, &time, 8);
+    print_answer("replacement", difficulty_guarded_replace_both(SECOND(s, p), count_of(s) - 1, object, s->object_size, TABLES(s, p)));
+}
+
+/* Opens for a second player, whose settings of 47 bytes are refused (2), and edits for both: an object moved, a copy of it put in, the first object taken out. A circle
+ * 4,000 seconds in is too late at normal speed alone (6), and one 2,000 seconds in at half speed alone, for which the second player is opened anew. */
+static void two_players(struct station *s, struct player *p, size_t place) {
+    uint8_t object[DIFFICULTY_STATED_OBJECT];
+    const float x = 300.0f;
+    puts("second player at double speed");
+    set_speed(s, p, 2.0);
+    open_second(s, p, DIFFICULTY_SETTINGS - 1);
+    open_second(s, p, DIFFICULTY_SETTINGS);
+    show_second(s, p, place);
+    memcpy(object, s->chart + 80 + s->object_size * place, s->object_size);
+    memcpy(object + 16, &x, 4);
+    print_answer("replacement", difficulty_guarded_replace_both(SECOND(s, p), place, object, s->object_size, TABLES(s, p)));
+    print_answer("insertion", difficulty_guarded_insert_both(SECOND(s, p), place, object, s->object_size, TABLES(s, p)));
+    print_answer("removal", difficulty_guarded_remove_both(SECOND(s, p), 0, TABLES(s, p)));
+    put_late(s, p, 4e6);
+    show(s, place);
+    show_second(s, p, place);
+    puts("second player at half speed");
+    set_speed(s, p, 0.5);
+    open_second(s, p, DIFFICULTY_SETTINGS);
+    put_late(s, p, 2e6);
+    show(s, place);
+    show_second(s, p, place);
+    show_second_playing(s, p);
+}
+
 int main(int count, char **arguments) {
     if (count != 2) { fputs("usage: client CHART\n", stderr); return 2; }
     struct station s = {0};
+    struct player second = {0};
     s.chart = read_file(arguments[1], &s.length, &s.object_size);
     size_t n = s.length >= 4 ? count_of(&s) : 0;
     s.objects = n <= DIFFICULTY_MOST ? n : 0;
@@ -151,6 +246,8 @@ int main(int count, char **arguments) {
     s.values_length = DIFFICULTY_VALUES * (s.objects + 2);
     s.records = claim(s.records_length, sizeof(double));
     s.values = claim(s.values_length, sizeof(double));
+    second.records = claim(s.records_length, sizeof(double));
+    second.values = claim(s.values_length, sizeof(double));
     for (int i = 0; i < 4; i++) s.scratch[i] = claim(DIFFICULTY_SCRATCH, sizeof(double));
     printf("objects %zu\n", s.objects);
     uint64_t answer = difficulty_guarded_open(s.chart, s.length, s.records, s.records_length, s.values, s.values_length);
@@ -162,8 +259,11 @@ int main(int count, char **arguments) {
         show(&s, s.objects / 2);
         put_in_and_take_out(&s, s.objects / 2);
         show_playing(&s);
+        two_players(&s, &second, (s.objects - 1) / 2);
     }
     for (int i = 0; i < 4; i++) free(s.scratch[i]);
+    free(second.values);
+    free(second.records);
     free(s.values);
     free(s.records);
     free(s.chart);

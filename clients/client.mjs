@@ -1,7 +1,8 @@
-// Opens a chart, drags one of its objects a thousand times, puts one in and takes two out, and prints what a station would show. client.c does the same.
+// Opens a chart, drags one of its objects a thousand times, puts one in and takes two out, and prints what a station would show; then edits it for two players, the second at double and at
+// half speed. client.c does the same.
 //     node client.mjs STATION.wasm CHART
 import { readFileSync } from 'node:fs';
-import { Chart, MODS, MOST, Refusal } from './station.mjs';
+import { Chart, MODS, MOST, Refusal, Second } from './station.mjs';
 
 const [wasm, name] = process.argv.slice(2);
 if (!name) {
@@ -27,16 +28,17 @@ function printFigure(what, answer) {
     else printNumbers(what, answer);
 }
 
-function show(place) {
-    const readings = { values: chart.readValues(place), record: chart.readRecord(place), parts: chart.readAimParts(place), rhythm: chart.readRhythm(place) };
+// What the chart, that is the first player, or the second shows.
+function show(place, player = chart) {
+    const readings = { values: player.readValues(place), record: player.readRecord(place), parts: player.readAimParts(place), rhythm: player.readRhythm(place) };
     for (const [what, answer] of Object.entries(readings)) {
         if (!(answer instanceof Refusal)) printNumbers(what, answer);
     }
-    printFigure('totals', chart.totals());
-    printFigure('counts', chart.counts());
-    printFigure('prefix', chart.totalsTo(place));
+    printFigure('totals', player.totals());
+    printFigure('counts', player.counts());
+    printFigure('prefix', player.totalsTo(place));
     const numbers = { approachRate: 9.5, overallDifficulty: 8, baseMultiplier: 1.14, startScale: 2 };
-    printFigure('ratings', chart.ratings(MODS.hidden | MODS.flashlight, numbers));
+    printFigure('ratings', player.ratings(MODS.hidden | MODS.flashlight, numbers));
 }
 
 // The totals while playing, for all numbers of objects; then a list one entry short (7), one object too many (8) and a base multiplier that is not finite (10).
@@ -76,6 +78,48 @@ function putInAndTakeOut(place) {
     show(place - 1);
 }
 
+// The header's settings with its clock rate times a power of two.
+function settings(speed) {
+    const bytes = chart.settings, fields = new DataView(bytes.buffer);
+    fields.setFloat64(0, fields.getFloat64(0, true) * speed, true);
+    return bytes;
+}
+
+// Puts a circle at the last place for both players that starts so many milliseconds in, as the first player plays.
+function putLate(second, milliseconds) {
+    const object = new Uint8Array(chart.objectSize), fields = new DataView(object.buffer);
+    const time = milliseconds * new DataView(chart.settings.buffer).getFloat64(0, true);
+    fields.setFloat64(0, time, true);
+    fields.setFloat64(8, time, true);
+    printAnswer('replacement', chart.replace(chart.objects - 1, object, second));
+}
+
+// Opens for a second player, whose settings of 47 bytes are refused (2), and edits for both: an object moved, a copy of it put in, the first object taken out. A circle 4,000 seconds in is too
+// late at normal speed alone (6), and one 2,000 seconds in at half speed alone, for which the second player is opened anew.
+function twoPlayers(place) {
+    console.log('second player at double speed');
+    const second = new Second(chart, settings(2).slice(0, 47));
+    printAnswer('opening', second.open());
+    second.settings = settings(2);
+    printAnswer('opening', second.open());
+    show(place, second);
+    const object = chart.object(place);
+    new DataView(object.buffer).setFloat32(16, 300, true);
+    printAnswer('replacement', chart.replace(place, object, second));
+    printAnswer('insertion', chart.insert(place, object, second));
+    printAnswer('removal', chart.remove(0, second));
+    putLate(second, 4e6);
+    show(place);
+    show(place, second);
+    console.log('second player at half speed');
+    second.settings = settings(0.5);
+    printAnswer('opening', second.open());
+    putLate(second, 2e6);
+    show(place);
+    show(place, second);
+    printFigure('prefixes', second.totalsWhilePlaying());
+}
+
 console.log(`objects ${objects}`);
 const opened = chart.open();
 printAnswer('opening', opened);
@@ -87,4 +131,5 @@ if (opened === null && objects > 1) {
     show(place);
     putInAndTakeOut(place);
     showPlaying();
+    twoPlayers(Math.floor((objects - 1) / 2));
 }

@@ -1,5 +1,6 @@
 #!/usr/bin/env python3
-"""Opens a chart, drags one of its objects a thousand times, puts one in and takes two out, and prints what a station would show. client.c does the same.
+"""Opens a chart, drags one of its objects a thousand times, puts one in and takes two out, and prints what a station would show; then edits it for two players, the second at double and
+at half speed. client.c does the same.
 
     client.py LIBSTATION.so CHART
 """
@@ -7,7 +8,7 @@ import struct
 import sys
 
 sys.dont_write_bytecode = True
-from station import FLASHLIGHT, HIDDEN, MOST, Chart, Library, Refusal
+from station import FLASHLIGHT, HIDDEN, MOST, Chart, Library, Refusal, Second
 
 
 def print_answer(what, answer):
@@ -24,6 +25,7 @@ def print_figure(what, answer):
 
 
 def show(chart, place):
+    """What the chart, that is the first player, or the second shows."""
     readings = (("values", chart.read_values), ("record", chart.read_record), ("parts", chart.read_aim_parts), ("rhythm", chart.read_rhythm))
     for what, read in readings:
         answer = read(place)
@@ -72,6 +74,44 @@ def put_in_and_take_out(chart, objects, place):
     show(chart, place - 1)
 
 
+def settings(chart, speed):
+    """The header's settings with its clock rate times a power of two."""
+    clock, = struct.unpack_from("<d", chart.settings)
+    return struct.pack("<d", clock * speed) + chart.settings[8:]
+
+
+def put_late(chart, second, milliseconds):
+    """Puts a circle at the last place for both players that starts so many milliseconds in, as the first player plays."""
+    time = milliseconds * struct.unpack_from("<d", chart.settings)[0]
+    print_answer("replacement", chart.replace(chart.objects - 1, struct.pack("<2d", time, time).ljust(chart.object_size, b"\0"), second))
+
+
+def two_players(chart, place):
+    """Opens for a second player, whose settings of 47 bytes are refused (2), and edits for both: an object moved, a copy of it put in, the first object taken out. A circle 4,000 seconds in
+    is too late at normal speed alone (6), and one 2,000 seconds in at half speed alone, for which the second player is opened anew."""
+    print("second player at double speed")
+    second = Second(chart, settings(chart, 2)[:47])
+    print_answer("opening", second.open())
+    second.settings = settings(chart, 2)
+    print_answer("opening", second.open())
+    show(second, place)
+    obj = bytearray(chart.object(place))
+    struct.pack_into("<f", obj, 16, 300)
+    print_answer("replacement", chart.replace(place, obj, second))
+    print_answer("insertion", chart.insert(place, obj, second))
+    print_answer("removal", chart.remove(0, second))
+    put_late(chart, second, 4e6)
+    show(chart, place)
+    show(second, place)
+    print("second player at half speed")
+    second.settings = settings(chart, 0.5)
+    print_answer("opening", second.open())
+    put_late(chart, second, 2e6)
+    show(chart, place)
+    show(second, place)
+    print_figure("prefixes", second.totals_while_playing())
+
+
 def main():
     if len(sys.argv) != 3:
         sys.exit(__doc__.strip())
@@ -89,6 +129,7 @@ def main():
         show(chart, place)
         put_in_and_take_out(chart, objects, place)
         show_playing(chart)
+        two_players(chart, (objects - 1) // 2)
 
 
 if __name__ == "__main__":

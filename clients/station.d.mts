@@ -4,6 +4,8 @@
 export declare const OBJECT: 56;
 export declare const STATED_OBJECT: 64;
 export declare const MOST: 16384;
+/** Bytes of a player's settings; the first player's are those of the header, from byte 32 on. */
+export declare const SETTINGS: 48;
 
 /** Bits of the word of mods that comes with a call for ratings. */
 export declare const MODS: Readonly<{
@@ -40,25 +42,12 @@ export interface RatingNumbers {
 /** Bytes of an object of this chart, by its word at 28. */
 export declare function objectSize(bytes: Uint8Array): 56 | 64;
 
-export declare class Chart {
-    /** A chart in a memory of its own, with room for as many objects more. It is not opened yet. */
-    static load(module: WebAssembly.Module, bytes: Uint8Array, room?: number): Promise<Chart>;
-    constructor(instance: WebAssembly.Instance, bytes: Uint8Array, room?: number);
-
-    /** Bytes of an object. */
-    readonly objectSize: 56 | 64;
+/** A player's tables of a chart, and what is read of them: the first player is the chart itself. */
+export interface Player {
     /** How many objects the chart has, by its header. */
     get objects(): number;
-    /** The whole buffer, copied. */
-    get bytes(): Uint8Array;
-    /** The bytes of the object at a place, copied. */
-    object(place: number): Uint8Array;
-
-    /** Null where they are carried out. */
+    /** Null where it is carried out. */
     open(): Refusal | null;
-    replace(place: number, object: Uint8Array): Refusal | null;
-    insert(place: number, object: Uint8Array): Refusal | null;
-    remove(place: number): Refusal | null;
 
     /** 16 numbers, in the order that include/station.h gives. */
     readRecord(place: number): Float64Array | Refusal;
@@ -79,4 +68,34 @@ export declare class Chart {
     totalsWhilePlaying(entries?: number): Float64Array | Refusal;
     /** Aim, speed and flashlight ratings and the stars. */
     ratings(mods: number, numbers: RatingNumbers): Float64Array | Refusal;
+}
+
+export declare interface Chart extends Player {}
+/** A chart with the first player's tables, whose settings are the header's. */
+export declare class Chart {
+    /** A chart in a memory of its own, with room for as many objects more. It is not opened yet. */
+    static load(module: WebAssembly.Module, bytes: Uint8Array, room?: number): Promise<Chart>;
+    constructor(instance: WebAssembly.Instance, bytes: Uint8Array, room?: number);
+
+    /** Bytes of an object. */
+    readonly objectSize: 56 | 64;
+    /** The whole buffer, copied. */
+    get bytes(): Uint8Array;
+    /** The settings of the header, copied. */
+    get settings(): Uint8Array;
+    /** The bytes of the object at a place, copied. */
+    object(place: number): Uint8Array;
+
+    /** Null where they are carried out. They are for both players where the second is given; else the second player's tables fall behind the chart. */
+    replace(place: number, object: Uint8Array, second?: Second): Refusal | null;
+    insert(place: number, object: Uint8Array, second?: Second): Refusal | null;
+    remove(place: number, second?: Second): Refusal | null;
+}
+
+export declare interface Second extends Player {}
+/** A second player over a chart, with settings in 48 bytes. It is not opened yet; where other settings are set, it is to be opened anew. */
+export declare class Second {
+    constructor(chart: Chart, settings: Uint8Array);
+    get settings(): Uint8Array;
+    set settings(settings: Uint8Array);
 }

@@ -1,8 +1,11 @@
 // The library's calls for JavaScript, over target/wasm/station.wasm (`tools/platforms --wasm` builds it; it imports nothing). What include/station.h says of them in C holds here too.
-// A chart has an instance of the library and so a memory of its own: buffer, both tables, scratch, and room for what is asked.
+// A chart has an instance of the library and so a memory of its own: buffer, the first player's tables, scratch, and room for what is asked; a second player over it has settings and tables there.
 
 /** Bytes of an object in a chart without stated lengths, and in one with them; objects of a chart at most. */
 export const OBJECT = 56, STATED_OBJECT = 64, MOST = 16384;
+
+/** Bytes of a player's settings; the first player's are those of the header, from byte 32 on. */
+export const SETTINGS = 48;
 
 /** Bits of the word of mods that comes with a call for ratings. */
 export const MODS = Object.freeze({ autopilot: 1, relax: 2, touchDevice: 4, hidden: 8, flashlight: 16, traceable: 32, fadeOnly: 64 });
@@ -47,155 +50,209 @@ function count(bytes) {
     return bytes.length < 4 ? 0 : (bytes[0] | bytes[1] << 8 | bytes[2] << 16 | bytes[3] << 24) >>> 0;
 }
 
-export class Chart {
-    #call; // the exports
-    #end; // the first byte that is not in use
-    #chart;
+// The library's memory and what all players of a chart share there. A slice is where it begins, and how many elements it has.
+class Memory {
+    constructor({ exports }, bytes, room) {
+        this.call = exports;
+        this.end = Number(exports.__heap_base.value); // the first byte that is not in use
+        this.entries = (count(bytes) <= MOST ? count(bytes) : 0) + room + 1; // one more than there is room for: a full chart is refused by 9, not by 7
+        this.chart = this.claim(bytes.length + room * objectSize(bytes), 1);
+        this.scratch = Array.from({ length: 4 }, () => this.claim(SCRATCH, NUMBER));
+        this.list = this.claim(TOTALS * this.entries, NUMBER);
+        this.numbers = this.claim(5, NUMBER);
+        this.out = this.claim(AIM, NUMBER);
+        this.bytes(this.chart).set(bytes);
+    }
+
+    // A slice behind all others.
+    claim(length, size) {
+        const at = Math.ceil(this.end / 16) * 16;
+        this.end = at + length * size;
+        this.reach(this.end);
+        return { at, length };
+    }
+
+    // Memory up to an address.
+    reach(end) {
+        const lacking = Math.ceil((end - this.call.memory.buffer.byteLength) / PAGE);
+        if (lacking > 0) this.call.memory.grow(lacking);
+    }
+
+    bytes({ at, length }) {
+        return new Uint8Array(this.call.memory.buffer, at, length);
+    }
+
+    read({ at }, count) {
+        return new Float64Array(this.call.memory.buffer, at, count).slice();
+    }
+
+    // An object's bytes behind all else.
+    lent(object) {
+        const slice = { at: Math.ceil(this.end / 16) * 16, length: object.length };
+        this.reach(slice.at + slice.length);
+        this.bytes(slice).set(object);
+        return slice;
+    }
+
+    // A call with its arguments as the library takes them: a slice as address and length, a place as a whole number of 64 bits.
+    carry(name, ...given) {
+        const words = given.flatMap((x) => (typeof x === 'object' ? [x.at, BigInt(x.length)] : [x]));
+        const code = this.call[`difficulty_${name}`](...words);
+        return code === 0n ? null : new Refusal(code);
+    }
+}
+
+let memoryOf, lentOf, tablesOf; // what a player is made of, for the classes of this module
+
+// A player's tables, and what is read of them: null or the numbers where a call is carried out, else a Refusal. The second player's calls have settings behind the chart, and a suffix.
+class Player {
+    #memory;
+    #lent; // the chart, and settings
+    #suffix;
     #records;
     #values;
-    #scratch;
-    #list;
-    #numbers;
-    #out;
 
+    static {
+        memoryOf = (player) => player.#memory;
+        lentOf = (player) => player.#lent;
+        tablesOf = (player) => [player.#records, player.#values];
+    }
+
+    constructor(memory, lent, suffix) {
+        this.#memory = memory;
+        this.#lent = lent;
+        this.#suffix = suffix;
+        this.#records = memory.claim(RECORD * memory.entries, NUMBER);
+        this.#values = memory.claim(VALUES * memory.entries, NUMBER);
+    }
+
+    #carry(name, ...given) {
+        return this.#memory.carry(name + this.#suffix, ...this.#lent, ...given);
+    }
+
+    // The first numbers of the output, or the refusal.
+    #numbersOf(count, name, ...given) {
+        const { out } = this.#memory;
+        return this.#carry(name, ...given, { at: out.at, length: count }) ?? this.#memory.read(out, count);
+    }
+
+    /** How many objects the chart has, by its header. */
+    get objects() {
+        return count(this.#memory.bytes(this.#memory.chart));
+    }
+
+    open() {
+        return this.#carry('open', this.#records, this.#values);
+    }
+
+    readRecord(place) {
+        return this.#numbersOf(RECORD, 'read_record', this.#records, BigInt(place));
+    }
+
+    readValues(place) {
+        return this.#numbersOf(VALUES, 'read_values', this.#values, BigInt(place));
+    }
+
+    readAimParts(place) {
+        return this.#numbersOf(AIM, 'read_aim_parts', this.#records, BigInt(place));
+    }
+
+    readRhythm(place) {
+        return this.#numbersOf(RHYTHM, 'read_rhythm', this.#records, BigInt(place));
+    }
+
+    totals() {
+        return this.#numbersOf(TOTALS, 'totals', this.#values, ...this.#memory.scratch);
+    }
+
+    counts() {
+        return this.#numbersOf(COUNTS, 'counts', this.#values, ...this.#memory.scratch);
+    }
+
+    /** The totals after the first m objects. */
+    totalsTo(m) {
+        return this.#numbersOf(TOTALS, 'totals_to', this.#values, BigInt(m), ...this.#memory.scratch);
+    }
+
+    /** The totals after 0, 1 and up to all objects, four numbers each, in a list of as many entries. */
+    totalsWhilePlaying(entries = this.objects + 1) {
+        const memory = this.#memory, list = { at: memory.list.at, length: Math.min(TOTALS * entries, memory.list.length) };
+        return this.#carry('totals_while_playing', this.#values, list, ...memory.scratch) ?? memory.read(list, list.length);
+    }
+
+    /** Aim, speed and flashlight ratings and the stars; attraction strength and start scale are given where they are there. */
+    ratings(mods, { approachRate, overallDifficulty, baseMultiplier, attractionStrength, startScale }) {
+        const memory = this.#memory, given = (attractionStrength === undefined ? 0 : 1) | (startScale === undefined ? 0 : 2);
+        const numbers = [approachRate, overallDifficulty, baseMultiplier, attractionStrength ?? 0, startScale ?? 0];
+        new Float64Array(memory.call.memory.buffer, memory.numbers.at, numbers.length).set(numbers);
+        return this.#numbersOf(RATINGS, 'ratings', this.#values, mods, given, memory.numbers, ...memory.scratch);
+    }
+}
+
+/** A chart with the first player's tables, whose settings are the header's. */
+export class Chart extends Player {
     /** A chart in a memory of its own, with room for as many objects more. It is not opened yet. */
     static async load(module, bytes, room = 0) {
         return new Chart(await WebAssembly.instantiate(module, {}), bytes, room);
     }
 
     constructor(instance, bytes, room = 0) {
-        this.#call = instance.exports;
-        this.#end = Number(this.#call.__heap_base.value);
-        const entries = (count(bytes) <= MOST ? count(bytes) : 0) + room + 1; // one more than there is room for: a full chart is refused by 9, not by 7
+        const memory = new Memory(instance, bytes, room);
+        super(memory, [memory.chart], '');
         this.objectSize = objectSize(bytes);
-        this.#chart = this.#claim(bytes.length + room * this.objectSize, 1);
-        this.#records = this.#claim(RECORD * entries, NUMBER);
-        this.#values = this.#claim(VALUES * entries, NUMBER);
-        this.#scratch = Array.from({ length: 4 }, () => this.#claim(SCRATCH, NUMBER));
-        this.#list = this.#claim(TOTALS * entries, NUMBER);
-        this.#numbers = this.#claim(5, NUMBER);
-        this.#out = this.#claim(AIM, NUMBER);
-        this.#reach(this.#end);
-        this.#memory(this.#chart).set(bytes);
     }
 
-    // A slice behind all others: where it begins, and how many elements it has.
-    #claim(length, size) {
-        const at = Math.ceil(this.#end / 16) * 16;
-        this.#end = at + length * size;
-        return { at, length };
-    }
-
-    // Memory up to an address.
-    #reach(end) {
-        const lacking = Math.ceil((end - this.#call.memory.buffer.byteLength) / PAGE);
-        if (lacking > 0) this.#call.memory.grow(lacking);
-    }
-
-    #memory({ at, length }) {
-        return new Uint8Array(this.#call.memory.buffer, at, length);
-    }
-
-    #read({ at }, count) {
-        return new Float64Array(this.#call.memory.buffer, at, count).slice();
-    }
-
-    // A call's arguments as the library takes them: a slice as address and length, a place as a whole number of 64 bits.
-    #answer(name, ...given) {
-        const words = given.flatMap((x) => (typeof x === 'object' ? [x.at, BigInt(x.length)] : [x]));
-        return this.#call[`difficulty_${name}`](...words);
-    }
-
-    #carry(name, ...given) {
-        const code = this.#answer(name, ...given);
-        return code === 0n ? null : new Refusal(code);
-    }
-
-    // The first numbers of the output, or the refusal.
-    #numbersOf(count, name, ...given) {
-        return this.#carry(name, ...given, { at: this.#out.at, length: count }) ?? this.#read(this.#out, count);
-    }
-
-    // The object's bytes behind all else.
-    #lent(object) {
-        const slice = { at: Math.ceil(this.#end / 16) * 16, length: object.length };
-        this.#reach(slice.at + slice.length);
-        this.#memory(slice).set(object);
-        return slice;
-    }
-
-    /** How many objects the chart has, by its header. */
-    get objects() {
-        return count(this.#memory(this.#chart));
-    }
-
-    /** The whole buffer, and the bytes of the object at a place, both copied. */
+    /** The whole buffer, the settings of the header, and the bytes of the object at a place, all copied. */
     get bytes() {
-        return this.#memory(this.#chart).slice();
+        const memory = memoryOf(this);
+        return memory.bytes(memory.chart).slice();
+    }
+
+    get settings() {
+        return this.bytes.slice(32, 32 + SETTINGS);
     }
 
     object(place) {
         return this.bytes.slice(80 + this.objectSize * place, 80 + this.objectSize * (place + 1));
     }
 
-    // The calls: null or the numbers where they are carried out, else a Refusal.
-
-    open() {
-        return this.#carry('open', this.#chart, this.#records, this.#values);
+    // An edit for both players where there is a second.
+    #edit(name, second, place, ...object) {
+        const memory = memoryOf(this), lent = object.map((bytes) => memory.lent(bytes)), tables = tablesOf(this);
+        if (!second) return memory.carry(name, memory.chart, BigInt(place), ...lent, ...tables);
+        return memory.carry(`${name}_both`, ...lentOf(second), BigInt(place), ...lent, ...tables, ...tablesOf(second));
     }
 
-    replace(place, object) {
-        return this.#carry('replace', this.#chart, BigInt(place), this.#lent(object), this.#records, this.#values);
+    /** The edits are for both players where the second is given; else the second player's tables fall behind the chart. */
+    replace(place, object, second) {
+        return this.#edit('replace', second, place, object);
     }
 
-    insert(place, object) {
-        return this.#carry('insert', this.#chart, BigInt(place), this.#lent(object), this.#records, this.#values);
+    insert(place, object, second) {
+        return this.#edit('insert', second, place, object);
     }
 
-    remove(place) {
-        return this.#carry('remove', this.#chart, BigInt(place), this.#records, this.#values);
+    remove(place, second) {
+        return this.#edit('remove', second, place);
+    }
+}
+
+/** A second player over a chart, with settings in 48 bytes. It is not opened yet. */
+export class Second extends Player {
+    constructor(chart, settings) {
+        const memory = memoryOf(chart), slice = memory.claim(settings.length, 1);
+        memory.bytes(slice).set(settings);
+        super(memory, [memory.chart, slice], '_as');
     }
 
-    readRecord(place) {
-        return this.#numbersOf(RECORD, 'read_record', this.#chart, this.#records, BigInt(place));
+    get settings() {
+        return memoryOf(this).bytes(lentOf(this)[1]).slice();
     }
 
-    readValues(place) {
-        return this.#numbersOf(VALUES, 'read_values', this.#chart, this.#values, BigInt(place));
-    }
-
-    readAimParts(place) {
-        return this.#numbersOf(AIM, 'read_aim_parts', this.#chart, this.#records, BigInt(place));
-    }
-
-    readRhythm(place) {
-        return this.#numbersOf(RHYTHM, 'read_rhythm', this.#chart, this.#records, BigInt(place));
-    }
-
-    totals() {
-        return this.#numbersOf(TOTALS, 'totals', this.#chart, this.#values, ...this.#scratch);
-    }
-
-    counts() {
-        return this.#numbersOf(COUNTS, 'counts', this.#chart, this.#values, ...this.#scratch);
-    }
-
-    /** The totals after the first m objects. */
-    totalsTo(m) {
-        return this.#numbersOf(TOTALS, 'totals_to', this.#chart, this.#values, BigInt(m), ...this.#scratch);
-    }
-
-    /** The totals after 0, 1 and up to all objects, four numbers each, in a list of as many entries. */
-    totalsWhilePlaying(entries = this.objects + 1) {
-        const list = { at: this.#list.at, length: Math.min(TOTALS * entries, this.#list.length) };
-        return this.#carry('totals_while_playing', this.#chart, this.#values, list, ...this.#scratch) ?? this.#read(list, list.length);
-    }
-
-    /** Aim, speed and flashlight ratings and the stars; attraction strength and start scale are given where they are there. */
-    ratings(mods, { approachRate, overallDifficulty, baseMultiplier, attractionStrength, startScale }) {
-        const given = (attractionStrength === undefined ? 0 : 1) | (startScale === undefined ? 0 : 2);
-        const numbers = [approachRate, overallDifficulty, baseMultiplier, attractionStrength ?? 0, startScale ?? 0];
-        new Float64Array(this.#call.memory.buffer, this.#numbers.at, numbers.length).set(numbers);
-        return this.#numbersOf(RATINGS, 'ratings', this.#chart, this.#values, mods, given, this.#numbers, ...this.#scratch);
+    /** Other settings; the tables are then to be opened anew. */
+    set settings(settings) {
+        const memory = memoryOf(this), lent = lentOf(this);
+        if (settings.length !== lent[1].length) lent[1] = memory.claim(settings.length, 1);
+        memory.bytes(lent[1]).set(settings);
     }
 }

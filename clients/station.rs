@@ -5,6 +5,8 @@
 pub const OBJECT: usize = 56;
 pub const STATED_OBJECT: usize = 64;
 pub const MOST: usize = 16384;
+/// Bytes of a player's settings; the first player's are those of the header, from byte 32 on.
+pub const SETTINGS: usize = 48;
 pub const RECORD: usize = 16;
 pub const VALUES: usize = 5;
 pub const AIM: usize = 18;
@@ -58,6 +60,43 @@ mod library {
             c: *const u8, cl: usize, v: *const f64, vl: usize, mods: u32, given: u32, numbers: *const f64, bl: usize, aim: *mut f64, al: usize, still: *mut f64, nl: usize,
             speed: *mut f64, sl: usize, light: *mut f64, ll: usize, out: *mut f64, ol: usize,
         ) -> u64;
+        pub fn difficulty_open_as(c: *const u8, cl: usize, s: *const u8, tl: usize, r: *mut f64, rl: usize, v: *mut f64, vl: usize) -> u64;
+        pub fn difficulty_read_record_as(c: *const u8, cl: usize, s: *const u8, tl: usize, r: *const f64, rl: usize, place: usize, out: *mut f64, ol: usize) -> u64;
+        pub fn difficulty_read_values_as(c: *const u8, cl: usize, s: *const u8, tl: usize, v: *const f64, vl: usize, place: usize, out: *mut f64, ol: usize) -> u64;
+        pub fn difficulty_read_aim_parts_as(c: *const u8, cl: usize, s: *const u8, tl: usize, r: *const f64, rl: usize, place: usize, out: *mut f64, ol: usize) -> u64;
+        pub fn difficulty_read_rhythm_as(c: *const u8, cl: usize, s: *const u8, tl: usize, r: *const f64, rl: usize, place: usize, out: *mut f64, ol: usize) -> u64;
+        pub fn difficulty_totals_as(
+            c: *const u8, cl: usize, s: *const u8, tl: usize, v: *const f64, vl: usize, aim: *mut f64, al: usize, still: *mut f64, nl: usize,
+            speed: *mut f64, pl: usize, light: *mut f64, ll: usize, out: *mut f64, ol: usize,
+        ) -> u64;
+        pub fn difficulty_counts_as(
+            c: *const u8, cl: usize, s: *const u8, tl: usize, v: *const f64, vl: usize, aim: *mut f64, al: usize, still: *mut f64, nl: usize,
+            speed: *mut f64, pl: usize, light: *mut f64, ll: usize, out: *mut f64, ol: usize,
+        ) -> u64;
+        pub fn difficulty_totals_to_as(
+            c: *const u8, cl: usize, s: *const u8, tl: usize, v: *const f64, vl: usize, m: usize, aim: *mut f64, al: usize, still: *mut f64, nl: usize,
+            speed: *mut f64, pl: usize, light: *mut f64, ll: usize, out: *mut f64, ol: usize,
+        ) -> u64;
+        pub fn difficulty_totals_while_playing_as(
+            c: *const u8, cl: usize, s: *const u8, tl: usize, v: *const f64, vl: usize, list: *mut f64, el: usize, aim: *mut f64, al: usize, still: *mut f64, nl: usize,
+            speed: *mut f64, pl: usize, light: *mut f64, ll: usize,
+        ) -> u64;
+        pub fn difficulty_ratings_as(
+            c: *const u8, cl: usize, s: *const u8, tl: usize, v: *const f64, vl: usize, mods: u32, given: u32, numbers: *const f64, bl: usize, aim: *mut f64, al: usize, still: *mut f64, nl: usize,
+            speed: *mut f64, pl: usize, light: *mut f64, ll: usize, out: *mut f64, ol: usize,
+        ) -> u64;
+        pub fn difficulty_replace_both(
+            c: *mut u8, cl: usize, s: *const u8, tl: usize, place: usize, o: *const u8, ol: usize, r: *mut f64, rl: usize, v: *mut f64, vl: usize,
+            second_r: *mut f64, second_rl: usize, second_v: *mut f64, second_vl: usize,
+        ) -> u64;
+        pub fn difficulty_insert_both(
+            c: *mut u8, cl: usize, s: *const u8, tl: usize, place: usize, o: *const u8, ol: usize, r: *mut f64, rl: usize, v: *mut f64, vl: usize,
+            second_r: *mut f64, second_rl: usize, second_v: *mut f64, second_vl: usize,
+        ) -> u64;
+        pub fn difficulty_remove_both(
+            c: *mut u8, cl: usize, s: *const u8, tl: usize, place: usize, r: *mut f64, rl: usize, v: *mut f64, vl: usize,
+            second_r: *mut f64, second_rl: usize, second_v: *mut f64, second_vl: usize,
+        ) -> u64;
     }
 }
 
@@ -110,7 +149,7 @@ pub fn answer(code: u64) -> Answer {
     if code == 0 { Ok(()) } else { Err(Refusal { number: (code >> 32) as u32, place: code as u32 }) }
 }
 
-// SAFETY of all thirteen: a slice's pointer and length are valid for the call, and a `&mut` overlaps nothing.
+// SAFETY of all: a slice's pointer and length are valid for the call, and a `&mut` overlaps nothing.
 
 pub fn open(chart: &[u8], records: &mut [f64], values: &mut [f64]) -> Answer {
     answer(unsafe {
@@ -212,6 +251,121 @@ pub fn ratings(chart: &[u8], values: &[f64], mods: u32, given: u32, numbers: &[f
         library::difficulty_ratings(
             chart.as_ptr(), chart.len(), values.as_ptr(), values.len(), mods, given, numbers.as_ptr(), numbers.len(), aim.as_mut_ptr(), aim.len(), still.as_mut_ptr(), still.len(),
             speed.as_mut_ptr(), speed.len(), light.as_mut_ptr(), light.len(), out.as_mut_ptr(), out.len(),
+        )
+    })
+}
+
+// The second player's calls, with that player's settings and tables, and the edits for both.
+
+pub fn open_as(chart: &[u8], settings: &[u8], records: &mut [f64], values: &mut [f64]) -> Answer {
+    answer(unsafe {
+        library::difficulty_open_as(chart.as_ptr(), chart.len(), settings.as_ptr(), settings.len(), records.as_mut_ptr(), records.len(), values.as_mut_ptr(), values.len())
+    })
+}
+
+pub fn read_record_as(chart: &[u8], settings: &[u8], records: &[f64], place: usize, out: &mut [f64]) -> Answer {
+    answer(unsafe {
+        library::difficulty_read_record_as(chart.as_ptr(), chart.len(), settings.as_ptr(), settings.len(), records.as_ptr(), records.len(), place, out.as_mut_ptr(), out.len())
+    })
+}
+
+pub fn read_values_as(chart: &[u8], settings: &[u8], values: &[f64], place: usize, out: &mut [f64]) -> Answer {
+    answer(unsafe {
+        library::difficulty_read_values_as(chart.as_ptr(), chart.len(), settings.as_ptr(), settings.len(), values.as_ptr(), values.len(), place, out.as_mut_ptr(), out.len())
+    })
+}
+
+pub fn read_aim_parts_as(chart: &[u8], settings: &[u8], records: &[f64], place: usize, out: &mut [f64]) -> Answer {
+    answer(unsafe {
+        library::difficulty_read_aim_parts_as(chart.as_ptr(), chart.len(), settings.as_ptr(), settings.len(), records.as_ptr(), records.len(), place, out.as_mut_ptr(), out.len())
+    })
+}
+
+pub fn read_rhythm_as(chart: &[u8], settings: &[u8], records: &[f64], place: usize, out: &mut [f64]) -> Answer {
+    answer(unsafe {
+        library::difficulty_read_rhythm_as(chart.as_ptr(), chart.len(), settings.as_ptr(), settings.len(), records.as_ptr(), records.len(), place, out.as_mut_ptr(), out.len())
+    })
+}
+
+pub fn totals_as(chart: &[u8], settings: &[u8], values: &[f64], scratch: [&mut [f64]; 4], out: &mut [f64]) -> Answer {
+    let [aim, still, speed, light] = scratch;
+    answer(unsafe {
+        library::difficulty_totals_as(
+            chart.as_ptr(), chart.len(), settings.as_ptr(), settings.len(), values.as_ptr(), values.len(), aim.as_mut_ptr(), aim.len(), still.as_mut_ptr(), still.len(),
+            speed.as_mut_ptr(), speed.len(), light.as_mut_ptr(), light.len(), out.as_mut_ptr(), out.len(),
+        )
+    })
+}
+
+pub fn counts_as(chart: &[u8], settings: &[u8], values: &[f64], scratch: [&mut [f64]; 4], out: &mut [f64]) -> Answer {
+    let [aim, still, speed, light] = scratch;
+    answer(unsafe {
+        library::difficulty_counts_as(
+            chart.as_ptr(), chart.len(), settings.as_ptr(), settings.len(), values.as_ptr(), values.len(), aim.as_mut_ptr(), aim.len(), still.as_mut_ptr(), still.len(),
+            speed.as_mut_ptr(), speed.len(), light.as_mut_ptr(), light.len(), out.as_mut_ptr(), out.len(),
+        )
+    })
+}
+
+pub fn totals_to_as(chart: &[u8], settings: &[u8], values: &[f64], m: usize, scratch: [&mut [f64]; 4], out: &mut [f64]) -> Answer {
+    let [aim, still, speed, light] = scratch;
+    answer(unsafe {
+        library::difficulty_totals_to_as(
+            chart.as_ptr(), chart.len(), settings.as_ptr(), settings.len(), values.as_ptr(), values.len(), m, aim.as_mut_ptr(), aim.len(), still.as_mut_ptr(), still.len(),
+            speed.as_mut_ptr(), speed.len(), light.as_mut_ptr(), light.len(), out.as_mut_ptr(), out.len(),
+        )
+    })
+}
+
+pub fn totals_while_playing_as(chart: &[u8], settings: &[u8], values: &[f64], list: &mut [f64], scratch: [&mut [f64]; 4]) -> Answer {
+    let [aim, still, speed, light] = scratch;
+    answer(unsafe {
+        library::difficulty_totals_while_playing_as(
+            chart.as_ptr(), chart.len(), settings.as_ptr(), settings.len(), values.as_ptr(), values.len(), list.as_mut_ptr(), list.len(), aim.as_mut_ptr(), aim.len(), still.as_mut_ptr(), still.len(),
+            speed.as_mut_ptr(), speed.len(), light.as_mut_ptr(), light.len(),
+        )
+    })
+}
+
+pub fn ratings_as(chart: &[u8], settings: &[u8], values: &[f64], mods: u32, given: u32, numbers: &[f64], scratch: [&mut [f64]; 4], out: &mut [f64]) -> Answer {
+    let [aim, still, speed, light] = scratch;
+    answer(unsafe {
+        library::difficulty_ratings_as(
+            chart.as_ptr(), chart.len(), settings.as_ptr(), settings.len(), values.as_ptr(), values.len(), mods, given, numbers.as_ptr(), numbers.len(), aim.as_mut_ptr(), aim.len(), still.as_mut_ptr(), still.len(),
+            speed.as_mut_ptr(), speed.len(), light.as_mut_ptr(), light.len(), out.as_mut_ptr(), out.len(),
+        )
+    })
+}
+
+pub fn replace_both(
+    chart: &mut [u8], settings: &[u8], place: usize, object: &[u8], records: &mut [f64], values: &mut [f64], second_records: &mut [f64], second_values: &mut [f64],
+) -> Answer {
+    answer(unsafe {
+        library::difficulty_replace_both(
+            chart.as_mut_ptr(), chart.len(), settings.as_ptr(), settings.len(), place, object.as_ptr(), object.len(), records.as_mut_ptr(), records.len(), values.as_mut_ptr(), values.len(),
+            second_records.as_mut_ptr(), second_records.len(), second_values.as_mut_ptr(), second_values.len(),
+        )
+    })
+}
+
+pub fn insert_both(
+    chart: &mut [u8], settings: &[u8], place: usize, object: &[u8], records: &mut [f64], values: &mut [f64], second_records: &mut [f64], second_values: &mut [f64],
+) -> Answer {
+    answer(unsafe {
+        library::difficulty_insert_both(
+            chart.as_mut_ptr(), chart.len(), settings.as_ptr(), settings.len(), place, object.as_ptr(), object.len(), records.as_mut_ptr(), records.len(), values.as_mut_ptr(), values.len(),
+            second_records.as_mut_ptr(), second_records.len(), second_values.as_mut_ptr(), second_values.len(),
+        )
+    })
+}
+
+pub fn remove_both(
+    chart: &mut [u8], settings: &[u8], place: usize, records: &mut [f64], values: &mut [f64], second_records: &mut [f64], second_values: &mut [f64],
+) -> Answer {
+    answer(unsafe {
+        library::difficulty_remove_both(
+            chart.as_mut_ptr(), chart.len(), settings.as_ptr(), settings.len(), place, records.as_mut_ptr(), records.len(), values.as_mut_ptr(), values.len(),
+            second_records.as_mut_ptr(), second_records.len(), second_values.as_mut_ptr(), second_values.len(),
         )
     })
 }

@@ -230,7 +230,7 @@ uint64_t difficulty_ratings(const uint8_t *chart, size_t chart_length,
 
 /* Two players over one chart, say at normal and at double speed: both play the same objects, each with settings and tables of their own.
  *
- * The first player's settings are the header's, bytes 32 to 79 of the chart, and all calls above are that player's. The second player's are 48 bytes of the same
+ * The first player's settings are the header's, bytes 32 to 79 of the chart, and the calls above are that player's. The second player's are 48 bytes of the same
  * form that come with each call: five doubles, the factor and the flags, as docs/FORMAT.md has them from offset 32 on. For double speed they are a copy of the
  * header's with twice its clock rate. No call writes to them.
  *

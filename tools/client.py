@@ -4,13 +4,15 @@
     client.py ORACLE CHART > OUT     OUT is clients/NAME.out for clients/NAME.chart
 
 ORACLE is the comparison program built from the customer's Rust, asked with the orders in ORDERS that the library obeys. The calls are those of clients/client.c, in a buffer with room for
-one object more: an opening, a thousand drags of the middle object, a copy of it put in, two objects taken out, and readings before, between and after.
+one object more: an opening, a thousand drags of the middle object, a copy of it put in, two objects taken out, and readings before, between and after; then edits for two players. The oracle
+knows one player: the second is a chart with other settings in its header, to which the same edits are made.
 """
 import collections
 import math
 import struct
 import subprocess
 import sys
+import tempfile
 
 sys.dont_write_bytecode = True
 import chart
@@ -96,9 +98,66 @@ def told(line, answer):
 
 
 def edited(line, answer):
-    """The line of an insertion or a removal; none for other calls."""
-    what = {"insert": "insertion", "remove": "removal"}.get(line.split()[0])
-    return what and f"{what}: {'carried out' if answer == 'accepted' else answer}"
+    """The line of an opening or an edit; none for other calls."""
+    what = {"open": "opening", "replace": "replacement", "insert": "insertion", "remove": "removal"}.get(line.split()[0])
+    return what and f"{what}: {'carried out' if answer in ('opened', 'accepted') else answer}"
+
+
+def printed(lines, answers):
+    """The answers as the clients print them; readings that are refused are not."""
+    return [edited(line, a) or told(line, a) for line, a in zip(lines, answers) if not (line.startswith(READINGS) and a.startswith("refused"))]
+
+
+# ---------------------------------------------------------------- two players
+
+class Player:
+    """A chart under a player's settings, to which edits were made."""
+
+    def __init__(self, oracle, b, settings, edits):
+        self.oracle, self.b, self.edits = oracle, b[:32] + settings + b[80:], edits
+
+    def ask(self, lines):
+        """The answers to the lines, behind the edits, and the chart after them."""
+        with tempfile.TemporaryDirectory() as folder:
+            name, after = f"{folder}/chart", f"{folder}/after"
+            with open(name, "wb") as file:
+                file.write(self.b)
+            script = "\n".join([*self.edits, *lines])
+            done = subprocess.run([self.oracle, "script", name, after], input=script, capture_output=True, text=True, check=True)
+            with open(after, "rb") as file:
+                return done.stdout.splitlines()[len(self.edits):][:len(lines)], file.read()
+
+    def show(self, lines):
+        return printed(lines, self.ask(lines)[0])
+
+
+def for_both(first, second, line):
+    """The answer to an edit for both players; where it is accepted, it is made to both charts."""
+    (answer,), (other,) = first.ask([line])[0], second.ask([line])[0]
+    answer = other if answer == "accepted" else answer
+    if answer == "accepted":
+        first.edits, second.edits = first.edits + [line], second.edits + [line]
+    return edited(line, answer)
+
+
+def two_players(oracle, b, n, edits):
+    """The lines of clients' two_players, after these edits."""
+    place, tables, size = (n - 1) // 2, f"{n + 2} {n + 2}", chart.object_size(b)
+    opening, shows = f"open {tables}", shown(n, place)
+    clock, = struct.unpack_from("<d", b, 32)
+    at_speed = lambda speed: struct.pack("<d", speed * clock) + b[40:80]
+    late = lambda ms, now: f"replace {now - 1} {struct.pack('<2d', ms * clock, ms * clock).ljust(size, bytes(1)).hex()} {tables}"
+    first, second = Player(oracle, b, b[32:80], edits), Player(oracle, b, at_speed(2), edits)
+    stands = first.ask([])[1]
+    now, moved = struct.unpack_from("<I", stands)[0], bytearray(stands[chart.FRONT + size * place:][:size])
+    struct.pack_into("<f", moved, 16, 300)
+    lines = ["second player at double speed", "opening: refused 2 0", *second.show([opening, *shows])]
+    for line in (f"replace {place} {moved.hex()} {tables}", f"insert {place} {moved.hex()} {tables}", f"remove 0 {tables}", late(4e6, now)):
+        lines.append(for_both(first, second, line))
+    lines += [*first.show(shows), *second.show(shows), "second player at half speed"]
+    second = Player(oracle, b, at_speed(0.5), first.edits)
+    lines += [*second.show([opening]), for_both(first, second, late(2e6, now))]
+    return [*lines, *first.show(shows), *second.show([*shows, figure(f"prefixes {now + 1}", n)])]
 
 
 def main():
@@ -115,8 +174,9 @@ def main():
     counts = collections.Counter(a.rpartition(" ")[0] or a for line, a in zip(first, answers) if line.startswith("replace"))
     dragged = [f"{'carried out' if a == 'accepted' else a}: {k} times" for a, k in sorted(counts.items())]
     read = [told(line, a) for line, a in zip(first, answers) if not line.startswith(("buffer", "open", "replace"))]
-    rest = [edited(line, a) or told(line, a) for line, a in zip(after, answers[len(first):]) if not (line.startswith(READINGS) and a.startswith("refused"))]
-    print("\n".join([f"objects {n}", "opening: carried out", *read, *dragged, *rest]))
+    rest = printed(after, answers[len(first):])
+    edits = [line for line, a in zip(first + after, answers) if a == "accepted" or line.startswith(("buffer", "open"))]
+    print("\n".join([f"objects {n}", "opening: carried out", *read, *dragged, *rest, *two_players(oracle, b, n, edits)]))
 
 
 if __name__ == "__main__":
