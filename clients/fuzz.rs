@@ -1,6 +1,8 @@
-//! Throws random charts, short tables and wild places at every call, and checks after each what holds of every answer; then edits a chart of 16,384 objects:
+//! Throws random charts, short tables and wild places at every call, and checks after each what holds of every answer; then edits a chart of 16,384 objects, and throws a quarter as many
+//! calls for two players (players.rs):
 //!     fuzz SEED CALLS [FOLDER]
 //! With a folder, the charts, the calls and the answers are written there, for tools/fuzz_compare.py.
+mod players;
 mod station;
 use station::{mods, object_size, Answer, Refusal, AIM, COUNTS, NUMBERS, OBJECT, RATINGS, RECORD, RHYTHM, SCRATCH, STATED_OBJECT, TOTALS, VALUES};
 use std::cmp::{max, min};
@@ -618,6 +620,20 @@ fn fnv(bytes: &[u8]) -> u64 {
     bytes.iter().fold(0xCBF2_9CE4_8422_2325, |h, b| (h ^ *b as u64).wrapping_mul(0x0100_0000_01B3))
 }
 
+/// Calls for two players, in rounds of 20.
+fn two_players(r: &mut Random, calls: u64, mut scratch: [Vec<f64>; 4]) {
+    let (mut tally, mut rounds) = (players::Tally::default(), 0);
+    while tally.calls.iter().sum::<u64>() < calls {
+        let mut players = players::Players::new(r, scratch);
+        (0..20).for_each(|_| players.call(r, &mut tally));
+        scratch = players.round.scratch;
+        rounds += 1;
+    }
+    let [open, edits, readings, figures] = tally.calls;
+    println!("two players: {rounds} charts; open {open}, edits for both {edits}, readings {readings}, figures {figures}; carried out {}, refused by number {:?}", tally.refused[0], &tally.refused[1..]);
+    println!("{} edits were refused by the second player alone; {} of those carried out were on both players' own tables", tally.second, tally.compared);
+}
+
 fn main() {
     let words: Vec<String> = std::env::args().skip(1).collect();
     let (seed, calls): (u64, u64) = (words[0].parse().unwrap(), words[1].parse().unwrap());
@@ -656,4 +672,5 @@ fn main() {
     println!("read record {record}, read values {value}, read aim parts {parts}, read rhythm {rhythm}");
     println!("totals {totals}, counts {counted}, totals to {reached}, totals while playing {playing}, ratings {ratings}");
     println!("carried out {}, refused by number {:?}; {} of those carried out were on the chart's own tables", counts.refused[0], &counts.refused[1..], counts.compared);
+    two_players(&mut r, calls / 4, scratch);
 }

@@ -11,7 +11,7 @@ enum { MEMORY = 1 << 20, ROOM = 1 << 24 };
 static _Alignas(16) uint8_t memory[MEMORY];
 static uint8_t answers[ROOM];
 static size_t answered;
-static const unsigned takes[] = {6, 9, 9, 7, 7, 7, 7, 7, 14, 15, 14, 14, 18};
+static const unsigned takes[] = {6, 9, 9, 7, 7, 7, 7, 7, 14, 15, 14, 14, 18, 15, 15, 13, 8, 9, 9, 9, 9, 16, 17, 16, 16, 20};
 
 static void fail(const char *why) {
     fprintf(stderr, "replay: %s\n", why);
@@ -59,12 +59,25 @@ static uint64_t call(uint32_t number, const uint64_t *a) {
     case 9: return difficulty_totals_to(BYTES(0), NUMBERS(2), a[4], FOUR(5), NUMBERS(13));
     case 10: return difficulty_totals_while_playing(BYTES(0), NUMBERS(2), NUMBERS(4), FOUR(6));
     case 11: return difficulty_counts(BYTES(0), NUMBERS(2), FOUR(4), NUMBERS(12));
-    default: return difficulty_ratings(BYTES(0), NUMBERS(2), (uint32_t)a[4], (uint32_t)a[5], NUMBERS(6), FOUR(8), NUMBERS(16));
+    case 12: return difficulty_ratings(BYTES(0), NUMBERS(2), (uint32_t)a[4], (uint32_t)a[5], NUMBERS(6), FOUR(8), NUMBERS(16));
+    case 13: return difficulty_replace_both(BYTES(0), BYTES(2), a[4], BYTES(5), FOUR(7));
+    case 14: return difficulty_insert_both(BYTES(0), BYTES(2), a[4], BYTES(5), FOUR(7));
+    case 15: return difficulty_remove_both(BYTES(0), BYTES(2), a[4], FOUR(5));
+    case 16: return difficulty_open_as(BYTES(0), BYTES(2), NUMBERS(4), NUMBERS(6));
+    case 17: return difficulty_read_record_as(BYTES(0), BYTES(2), NUMBERS(4), a[6], NUMBERS(7));
+    case 18: return difficulty_read_values_as(BYTES(0), BYTES(2), NUMBERS(4), a[6], NUMBERS(7));
+    case 19: return difficulty_read_aim_parts_as(BYTES(0), BYTES(2), NUMBERS(4), a[6], NUMBERS(7));
+    case 20: return difficulty_read_rhythm_as(BYTES(0), BYTES(2), NUMBERS(4), a[6], NUMBERS(7));
+    case 21: return difficulty_totals_as(BYTES(0), BYTES(2), NUMBERS(4), FOUR(6), NUMBERS(14));
+    case 22: return difficulty_totals_to_as(BYTES(0), BYTES(2), NUMBERS(4), a[6], FOUR(7), NUMBERS(15));
+    case 23: return difficulty_totals_while_playing_as(BYTES(0), BYTES(2), NUMBERS(4), NUMBERS(6), FOUR(8));
+    case 24: return difficulty_counts_as(BYTES(0), BYTES(2), NUMBERS(4), FOUR(6), NUMBERS(14));
+    default: return difficulty_ratings_as(BYTES(0), BYTES(2), NUMBERS(4), (uint32_t)a[6], (uint32_t)a[7], NUMBERS(8), FOUR(10), NUMBERS(18));
     }
 }
 
 static void step(uint32_t what) {
-    uint64_t a[18], r;
+    uint64_t a[20], r;
     uint32_t first = what == END ? 0 : word(), second = what == END || what == CALL ? 0 : word();
     double x;
     switch (what) {

@@ -11,6 +11,12 @@ const CALLS = [
     ['read_record', reading], ['read_values', reading], ['read_aim_parts', reading], ['read_rhythm', reading],
     ['totals', figure], ['totals_to', `pnpnn${four}pn`], ['totals_while_playing', `pnpnpn${four}`], ['counts', figure], ['ratings', `pnpnwwpn${four}pn`],
 ];
+const isEdit = ([name]) => ['replace', 'insert', 'remove'].includes(name);
+// For the second player settings come behind the chart, and an edit for both takes that player's tables too.
+CALLS.push(
+    ...CALLS.filter(isEdit).map(([name, takes]) => [`${name}_both`, `pn${takes}pnpn`]),
+    ...CALLS.filter((call) => !isEdit(call)).map(([name, takes]) => [`${name}_as`, `pn${takes}`]),
+);
 
 const { exports } = await WebAssembly.instantiate(await WebAssembly.compile(readFileSync(wasm)), {});
 const base = Math.ceil(exports.__heap_base.value / 16) * 16;

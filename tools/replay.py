@@ -20,24 +20,31 @@ CALLS = {
     "totals": SLICE * 2 + FOUR + SLICE, "totals_to": SLICE * 2 + "n" + FOUR + SLICE, "totals_while_playing": SLICE * 3 + FOUR, "counts": SLICE * 2 + FOUR + SLICE,
     "ratings": SLICE * 2 + "ww" + SLICE + FOUR + SLICE,
 }
+EDITS = ("replace", "insert", "remove")
+# For the second player settings come behind the chart, and an edit for both takes that player's tables too.
+CALLS |= {f"{name}_both": SLICE + CALLS[name] + SLICE * 2 for name in EDITS} | {f"{name}_as": SLICE + takes for name, takes in CALLS.items() if name not in EDITS}
 NUMBER_OF = {name: i for i, name in enumerate(CALLS)}
 TAKES = list(CALLS.values())
 END, PUT, FILL, CALL, SHOW = range(5)
 
-# The memory: a buffer for the chart, an object, numbers that come with a call, an answer, both tables, four slices of scratch, a list.
+# The memory: a buffer for the chart, an object and settings, numbers that come with a call, an answer, both tables, four slices of scratch, a list, the second player's tables.
 ENTRIES, SCRATCH, MEMORY = 1024, 9216, 65_536
 CHART = 0
 OBJECT = CHART + MEMORY
+SETTINGS = OBJECT + 2048
 NUMBERS = OBJECT + 4096
 OUT = NUMBERS + 64
 RECORDS = OUT + 192
 VALUES = RECORDS + 8 * 16 * ENTRIES
 SCRATCHES = [VALUES + 8 * 5 * ENTRIES + 8 * SCRATCH * i for i in range(4)]
 LIST = SCRATCHES[3] + 8 * SCRATCH
-SIZE = LIST + 8 * 4 * (ENTRIES + 1)
+SECOND_RECORDS = LIST + 8 * 4 * (ENTRIES + 1)
+SECOND_VALUES = SECOND_RECORDS + 8 * 16 * ENTRIES
+SIZE = SECOND_VALUES + 8 * 5 * ENTRIES
 MOST = 600  # objects that a case looks at
 UNUSED = 7.5
 WIDTHS = {"read_record": 16, "read_values": 5, "read_aim_parts": 18, "read_rhythm": 2, "totals": 4, "totals_to": 4, "counts": 7, "ratings": 4}
+WIDTHS |= {f"{name}_as": width for name, width in WIDTHS.items()}
 
 
 class Case:
@@ -126,8 +133,30 @@ def edits(r, case, b, n):
     case.call("totals", lent, tables[1], *scratch())
 
 
+def second_player(r, case, b, n):
+    """The chart as it stands for a second player, at another clock rate, some with settings a byte short: opened, read, and edited for both; then that player's tables."""
+    size, settings = chart.object_size(b), (SETTINGS, 47 if r.random() < 0.05 else 48)
+    lent, tables = (CHART, len(b) + size), ((SECOND_RECORDS, 16 * (n + 1)), (SECOND_VALUES, 5 * (n + 1)))
+    case.put(SETTINGS, struct.pack("<d", 0.5 * (1 + seeded.below(r, 5))) + b[40:80].ljust(40, b"\0"))
+    case.fill(SECOND_RECORDS, 16 * (n + 2), UNUSED)
+    case.fill(SECOND_VALUES, 5 * (n + 2), UNUSED)
+    case.call("open_as", lent, settings, *tables)
+    for name, table in (("read_record", 0), ("read_values", 1), ("read_aim_parts", 0), ("read_rhythm", 0)):
+        case.call(f"{name}_as", lent, settings, tables[table], n // 2)
+    for name, given in (("totals", ()), ("counts", ()), ("totals_to", (n // 2,))):
+        case.call(f"{name}_as", lent, settings, tables[1], *given, *scratch())
+    case.call("totals_while_playing_as", lent, settings, tables[1], (LIST, 4 * (n + 2)), *scratch())
+    case.call("ratings_as", lent, settings, tables[1], seeded.below(r, 128), 0, (NUMBERS, 5), *scratch())
+    both = ((RECORDS, 16 * (n + 1)), (VALUES, 5 * (n + 1)), *tables)
+    case.call("replace_both", lent, settings, n // 2, (OBJECT, size), *both)
+    case.call("insert_both", lent, settings, n // 2, (OBJECT, size), *both)
+    case.call("remove_both", lent, settings, 0, *both)
+    case.show(SECOND_RECORDS, 128 * (n + 1))
+    case.show(SECOND_VALUES, 40 * (n + 1))
+
+
 def of_chart(r, name, b):
-    """A case: the chart is opened, all of its values, details and figures are read, and three edits follow."""
+    """A case: the chart is opened, all of its values, details and figures are read, three edits follow, and a second player."""
     case, n = Case(name), count_of(b)
     case.put(CHART, b + bytes(chart.STATED_OBJECT.size))
     case.fill(RECORDS, 16 * (n + 2), UNUSED)
@@ -146,6 +175,7 @@ def of_chart(r, name, b):
         case.call("read_values", lent, values, place)
     figures(r, case, (lent, values), n)
     edits(r, case, b, n)
+    second_player(r, case, b, n)
     return case
 
 
