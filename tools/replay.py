@@ -147,6 +147,7 @@ def second_player(r, case, b, n):
         case.call(f"{name}_as", lent, settings, tables[1], *given, *scratch())
     case.call("totals_while_playing_as", lent, settings, tables[1], (LIST, 4 * (n + 2)), *scratch())
     case.call("ratings_as", lent, settings, tables[1], seeded.below(r, 128), 0, (NUMBERS, 5), *scratch())
+    case.put(OBJECT, b[chart.FRONT + size * (n // 2):][:size].ljust(size, b"\0"))
     both = ((RECORDS, 16 * (n + 1)), (VALUES, 5 * (n + 1)), *tables)
     case.call("replace_both", lent, settings, n // 2, (OBJECT, size), *both)
     case.call("insert_both", lent, settings, n // 2, (OBJECT, size), *both)
