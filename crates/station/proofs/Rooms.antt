@@ -7,15 +7,17 @@ use native.Mathlib.Omega.{arith}
 use lib.Dec.{ltb}
 use lib.Ieee.{Float, nan}
 use lib.ListN.{length, getD, List·getD-eq-default}
-use borrow.Author.Tests.{lt-ltb, le-ltb, ltb-false}
-use Rattle.num_tables.specs.Parts.{put}
-use Rattle.chart_opening.specs.Conditions.{refusalNumber, firstOf, ifAccepted, openVerdict}
+use borrow.Author.Tests.{lt-ltb, le-ltb, ltb-false, lt-leb, eq-eqb}
+use Rattle.num_tables.specs.Parts.{part, put}
+use Rattle.chart_fields.specs.Limits.{headerSize}
+use Rattle.chart_opening.specs.Limits.{settingsStart, settingsSize}
+use Rattle.chart_opening.specs.Conditions.{refusalNumber, firstOf, ifAccepted, chartConditions, openVerdict}
 use Rattle.chart_opening.specs.Accepted.{refuses}
 use Rattle.chart_opening.specs.declared.Refusal.{Refusal}
 use Rattle.chart_opening.specs.declared.Refusal.the-variants.{Header, Setting, Object, Entries, Order, Length, Table, Place, Room, NotFinite}
 use Rattle.chart_opening.specs.declared.Verdict.{Verdict}
 use Rattle.chart_opening.specs.declared.Verdict.the-variants.{Accepted, Refused}
-use Rattle.chart_opening.specs.Header.{settingsOf}
+use Rattle.chart_opening.specs.Header.{frameOk, headerOk, settingsOf}
 use Rattle.osu_records.specs.Rows.{recordAt}
 use Rattle.eval_rhythm.specs.Comparisons.{comparisonsAtPlace, mostComparisons}
 use Rattle.eval_rhythm.proofs.Bounded.{comparisons-bounded}
@@ -25,8 +27,11 @@ use Rattle.calls.specs.Conditions.{Scratch, lengths, scratchShort, Operation, r
 use Rattle.calls.specs.Calls.{Answer, refused, recordIs, valuesAre, detailIs, figureIs, Outcome, State, state, result, refuse, execute, verdictIn, outcome, cleared, scratchAfter}
 use Rattle.calls.proofs.Refusals.{sum-refused, sum-passed}
 use Rattle.chart_players.specs.Second.{under, secondVerdict}
-use Rattle.chart_players.specs.Verdicts.{first-append, second-then, second-accepted, refused-first}
+use Rattle.chart_players.specs.Under.{own-length, under-own}
+use Rattle.chart_players.specs.Verdicts.{first-append, second-header, second-passed, second-then, second-accepted, refused-first}
 use Rattle.calls_players.specs.Second.{seen, verdictAs, outcomeAs, scratchAfterAs}
+use Rattle.calls_players.specs.Statement.{Reads}
+use Rattle.calls_players.proofs.Own.{outcome-short, seen-own, own-outcome}
 use Rattle.station.specs.Codes.{rhythmWidth, ratingsWidth, numbersWidth, noRoom, readInto, intoVerdict, figureInto, scratchInto, readIntoAs, intoVerdictAs, figureIntoAs, scratchIntoAs, ratingsCramped}
 
 pub number-small : (r : Refusal) → refusalNumber r ≤ 10
@@ -73,7 +78,7 @@ module _ (t : List ℕ) (need room : ℕ) (a : Operation) (st : State) where
   into-long-as h = rw (le-ltb room need h)
 
   no-room-refuses : (v : Verdict) → secondVerdict t (st .chart) (Refused Table) ≡ v → v ≡ Accepted → ⊥
-  no-room-refuses v e f = refuses (sym (second-accepted t (st .chart) (Refused Table) (e ∙ f) .then) ∙ refl)
+  no-room-refuses v e f = refuses (second-accepted t (st .chart) (Refused Table) (e ∙ f) .then)
 
   pub into-room-as : (x : Answer) → ((r : Refusal) → refused r ≡ x → ⊥) → x ≡ readIntoAs t need room a st .answer → need ≤ room
   unfolding readIntoAs refuse ifAccepted
@@ -184,3 +189,78 @@ ratings-room room numbers e = go (ltb room ratingsWidth) refl e
     go : (s : Bool) → ltb room ratingsWidth ≡ s → (s || ltb numbers numbersWidth) ≡ false → ratingsWidth ≤ room
     go true h q = let z : _≡_ {A = ℕ} 0 1 = cc in absurd (omega arith)
     go false h q = ltb-false room ratingsWidth h
+
+-- ---- The first player: a chart without a header, and the header's own settings
+
+header-short : (b : List ℕ) → length b < headerSize → headerOk b ≡ false
+unfolding headerOk frameOk
+header-short b h = simp (lt-leb headerSize (length b) h)
+
+figure-header : (f : Figure) (b : List ℕ) (entries : ℕ) (short : Bool) → headerOk b ≡ false → figureVerdict f b entries short ≡ Refused Header
+unfolding figureConditions sumConditions chartConditions firstOf
+figure-header f b entries short e = simp e
+
+by-refusal : (o : Outcome) (st : State) (q : Refusal) → ifAccepted (Refused q) o (refuse st) ≡ refuse st q
+unfolding ifAccepted
+by-refusal o st q = refl
+
+module _ (need room : ℕ) (a : Operation) (st : State) where
+  pub short-into : length (st .chart) < headerSize → readInto need room a st ≡ refuse st Header
+  unfolding readInto
+  short-into h =
+      (λ i. cond (ltb room need) (refuse st (cond (header-short (st .chart) h i) Table Header)) (outcome-short a st h i)) ∙ same (ltb room need)
+    where
+      same : (x : Bool) → cond x (refuse st Header) (refuse st Header) ≡ refuse st Header
+      same true = refl
+      same false = refl
+
+  pub own-into : headerSize ≤ length (st .chart) → Reads a → readIntoAs (part settingsStart settingsSize (st .chart)) need room a st ≡ readInto need room a st
+  unfolding readIntoAs readInto
+  own-into h r = λ i. cond (ltb room need) (own-room (headerOk (st .chart)) refl i) (own-outcome st h a r i)
+    where
+      t : List ℕ
+      t = part settingsStart settingsSize (st .chart)
+
+      by : Verdict → Outcome
+      by v = ifAccepted v (outcomeAs t a st) (refuse st)
+
+      refused-by : (q : Refusal) → by (Refused q) ≡ refuse st q
+      refused-by q = by-refusal (outcomeAs t a st) st q
+
+      own-room : (x : Bool) → headerOk (st .chart) ≡ x → ifAccepted (secondVerdict t (st .chart) (Refused Table)) (outcomeAs t a st) (refuse st) ≡ refuse st (noRoom (st .chart))
+      own-room false e =
+          ap by (second-header t (st .chart) (Refused Table) (ap headerOk (under-own (st .chart) h) ∙ e)) ∙ (refused-by Header ∙ ap (λ (y : Bool). refuse st (cond y Table Header)) (sym e))
+      own-room true e =
+          ap by (second-passed t (st .chart) (Refused Table) (ap headerOk (under-own (st .chart) h) ∙ e) (eq-eqb (length t) settingsSize (own-length (st .chart) h)))
+          ∙ (refused-by Table ∙ ap (λ (y : Bool). refuse st (cond y Table Header)) (sym e))
+
+module _ (f : Figure) (cramped : Bool) (x : Scratch) (b : List ℕ) (vs : List Float) where
+  pub short-figure : length b < headerSize
+      → (figureInto f cramped x (state b [] vs) ≡ result (refused Header) b [] vs) × (scratchInto f cramped x (state b [] vs) ≡ x)
+  unfolding figureInto scratchInto intoVerdict ifAccepted refuse
+  short-figure h =
+      let q = figure-header f b (valueEntries (length vs)) (cramped || scratchShort (lengths x)) (header-short b h) in
+      (ap (λ (v : Verdict). ifAccepted v (execute (figure f (lengths x)) (state b [] vs)) (refuse (state b [] vs))) q, ap (λ (v : Verdict). ifAccepted v (cleared x) (λ r. x)) q)
+
+  own-asked : headerSize ≤ length b → intoVerdictAs (part settingsStart settingsSize b) f cramped x (state b [] vs) ≡ intoVerdict f cramped x (state b [] vs)
+  unfolding intoVerdictAs intoVerdict
+  own-asked h = ap (λ (c : List ℕ). secondVerdict t b (figureVerdict f c (valueEntries (length vs)) short)) (under-own b h) ∙ go (headerOk b) refl
+    where
+      t : List ℕ
+      t = part settingsStart settingsSize b
+
+      short : Bool
+      short = cramped || scratchShort (lengths x)
+
+      go : (y : Bool) → headerOk b ≡ y → secondVerdict t b (figureVerdict f b (valueEntries (length vs)) short) ≡ figureVerdict f b (valueEntries (length vs)) short
+      go false e = second-header t b _ (ap headerOk (under-own b h) ∙ e) ∙ sym (figure-header f b (valueEntries (length vs)) short e)
+      go true e = second-passed t b _ (ap headerOk (under-own b h) ∙ e) (eq-eqb (length t) settingsSize (own-length b h))
+
+  pub own-figure : headerSize ≤ length b
+      → (figureIntoAs (part settingsStart settingsSize b) f cramped x (state b [] vs) ≡ figureInto f cramped x (state b [] vs))
+      × (scratchIntoAs (part settingsStart settingsSize b) f cramped x (state b [] vs) ≡ scratchInto f cramped x (state b [] vs))
+  unfolding figureIntoAs figureInto scratchIntoAs scratchInto execute
+  own-figure h = (
+    (λ i. ifAccepted (own-asked h i) (record { answer = execute (figure f (lengths x)) (seen-own (state b [] vs) h i) .answer; leaves = state b [] vs }) (refuse (state b [] vs))),
+    (λ i. ifAccepted (own-asked h i) (cleared x) (λ r. x)),
+  )

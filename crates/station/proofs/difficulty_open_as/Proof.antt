@@ -26,7 +26,7 @@ same-length-2 c = search needs
 returns : tie.Need-returns
 returns c =
     let e = c .before .before .before .before .before .before .before .before .open-as .ensures in
-    (c .code .ensures ∙ ap verdictCode (sym (c .before .before .r .given .1) ∙ e .0), (e .1 .0, refl))
+    (c .code .ensures ∙ ap verdictCode (sym (c .before .before .r .given .1) ∙ e .0), e .1)
 
 same-length-3 : tie.Need-same-length-3
 same-length-3 c = search needs
@@ -37,7 +37,7 @@ same-length-4 c = search needs
 returns-2 : tie.Need-returns-2
 returns-2 c =
     let e = c .before .before .before .before .before .before .open-as .ensures in
-    (ap verdictCode (sym (c .enum-told .given .1) ∙ e .0), (e .1 .0, refl))
+    (ap verdictCode (sym (c .enum-told .given .1) ∙ e .0), e .1)
 
 pub difficulty-open-as-spec : {M : Type 1} → statement M
 difficulty-open-as-spec =

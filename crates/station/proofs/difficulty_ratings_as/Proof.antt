@@ -5,7 +5,7 @@ use Rattle.num_tables.specs.Parts.{put}
 use Rattle.calls.specs.Afresh.{ratings}
 use Rattle.calls.specs.Calls.{Answer, Outcome, state}
 use Rattle.figures.specs.Answers.{ratingsAnswer, scratchOf}
-use Rattle.station.specs.Codes.{answerCode, numbersOf, figureInto, scratchInto, askedOf}
+use Rattle.station.specs.Codes.{answerCode, numbersOf, figureIntoAs, scratchIntoAs, askedOf}
 use Rattle.station.proofs.Rooms.{put-none, figure-room, ratings-room}
 use borrow.Author.Needs.{needs}
 use Rattle.station.proofs.difficulty_ratings_as.Statement.{statement}
@@ -37,7 +37,7 @@ put-ratings-requires c κs =
     let e = c .before .before .before .before .before .before .before .before .before .before .before .before .ratings-into .ensures in
     let q₁ = c .before .before .before .before .before .before .before .before .before .before .before .before .before .before .before .before .before .asked-of .ensures in
     let cr = c .before .before .before .before .before .before .before .before .before .before .before .before .before .before .before .before .before .before .ratings-cramped .ensures in
-    let p = sym (ap ratingsAnswer (c .before .before .x .given .1)) ∙ (ap (λ (x : Outcome). x .answer) (e .0) ∙ (λ i. figureInto (ratings (q₁ i)) (cr i) sc st .answer)) in
+    let p = sym (ap ratingsAnswer (c .before .before .x .given .1)) ∙ (ap (λ (x : Outcome). x .answer) (e .0) ∙ (λ i. figureIntoAs (a .settings .now) (ratings (q₁ i)) (cr i) sc st .answer)) in
     ratings-room _ _ (figure-room (a .settings .now) (ratings (askedOf (a .mods) (a .given) (a .numbers .now))) _ sc (a .chart .now) (a .values .now) _ p)
 
 same-length : tie.Need-same-length
@@ -60,9 +60,9 @@ returns c =
     let e = c .before .before .before .before .before .before .before .before .before .before .before .before .ratings-into .ensures in
     let q₁ = c .before .before .before .before .before .before .before .before .before .before .before .before .before .before .before .before .before .asked-of .ensures in
     let cr = c .before .before .before .before .before .before .before .before .before .before .before .before .before .before .before .before .before .before .ratings-cramped .ensures in
-    let p = sym (ap ratingsAnswer (c .before .before .r .given .1)) ∙ (ap (λ (x : Outcome). x .answer) (e .0) ∙ (λ i. figureInto (ratings (q₁ i)) (cr i) sc st .answer)) in
-    let q = e .1 ∙ (λ i. scratchInto (ratings (q₁ i)) (cr i) sc st) in
-    (c .code .ensures ∙ ap answerCode p, (q, (put-none (a .out .now) ∙ ap (λ (x : Answer). put 0 (numbersOf x) (a .out .now)) p, (refl, refl))))
+    let p = sym (ap ratingsAnswer (c .before .before .r .given .1)) ∙ (ap (λ (x : Outcome). x .answer) (e .0) ∙ (λ i. figureIntoAs (a .settings .now) (ratings (q₁ i)) (cr i) sc st .answer)) in
+    let q = e .1 ∙ (λ i. scratchIntoAs (a .settings .now) (ratings (q₁ i)) (cr i) sc st) in
+    (c .code .ensures ∙ ap answerCode p, (q, (put-none (a .out .now) ∙ ap (λ (x : Answer). put 0 (numbersOf x) (a .out .now)) p, (refl, (refl, refl)))))
 
 same-length-5 : tie.Need-same-length-5
 same-length-5 c = search needs
@@ -87,9 +87,9 @@ returns-2 c =
     let e = c .before .before .before .before .before .before .before .before .before .before .before .before .before .before .before .ratings-into .ensures in
     let q₁ = c .before .before .before .before .before .before .before .before .before .before .before .before .before .before .before .before .before .before .before .before .asked-of .ensures in
     let cr = c .before .before .before .before .before .before .before .before .before .before .before .before .before .before .before .before .before .before .before .before .before .ratings-cramped .ensures in
-    let p = sym (ap ratingsAnswer (c .before .before .before .before .before .x .given .1)) ∙ (ap (λ (x : Outcome). x .answer) (e .0) ∙ (λ i. figureInto (ratings (q₁ i)) (cr i) sc st .answer)) in
-    let q = e .1 ∙ (λ i. scratchInto (ratings (q₁ i)) (cr i) sc st) in
-    (ap answerCode p, (q, (c .before .before .put-ratings .ensures ∙ ap (λ (x : Answer). put 0 (numbersOf x) (a .out .now)) p, (refl, refl))))
+    let p = sym (ap ratingsAnswer (c .before .before .before .before .before .x .given .1)) ∙ (ap (λ (x : Outcome). x .answer) (e .0) ∙ (λ i. figureIntoAs (a .settings .now) (ratings (q₁ i)) (cr i) sc st .answer)) in
+    let q = e .1 ∙ (λ i. scratchIntoAs (a .settings .now) (ratings (q₁ i)) (cr i) sc st) in
+    (ap answerCode p, (q, (c .before .before .put-ratings .ensures ∙ ap (λ (x : Answer). put 0 (numbersOf x) (a .out .now)) p, (refl, (refl, refl)))))
 
 pub difficulty-ratings-as-spec : {M : Type 1} → statement M
 difficulty-ratings-as-spec =

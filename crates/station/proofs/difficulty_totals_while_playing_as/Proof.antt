@@ -35,7 +35,7 @@ same-length-5 c = search needs
 returns : tie.Need-returns
 returns c =
     let e = c .before .before .before .before .before .before .before .before .before .before .before .before .before .before .totals-while-playing-as .ensures in
-    (c .code .ensures ∙ ap verdictCode (sym (c .before .before .r .given .1) ∙ e .0), (e .1 .0, (e .1 .1 .0, (e .1 .1 .1 .0, refl))))
+    (c .code .ensures ∙ ap verdictCode (sym (c .before .before .r .given .1) ∙ e .0), e .1)
 
 same-length-6 : tie.Need-same-length-6
 same-length-6 c = search needs
@@ -55,7 +55,7 @@ same-length-10 c = search needs
 returns-2 : tie.Need-returns-2
 returns-2 c =
     let e = c .before .before .before .before .before .before .before .before .before .before .before .before .totals-while-playing-as .ensures in
-    (ap verdictCode (sym (c .enum-told .given .1) ∙ e .0), (e .1 .0, (e .1 .1 .0, (e .1 .1 .1 .0, refl))))
+    (ap verdictCode (sym (c .enum-told .given .1) ∙ e .0), e .1)
 
 pub difficulty-totals-while-playing-as-spec : {M : Type 1} → statement M
 difficulty-totals-while-playing-as-spec =
