@@ -8,7 +8,7 @@ import { editSentence, openingSentence, reason } from './words.mjs';
 export const VALUES = ['aim', 'aim without sliders', 'speed', 'rhythm', 'flashlight'];
 export const TOTALS = ['aim', 'aim without sliders', 'speed', 'flashlight'];
 export const FRAME = 16; // milliseconds that a step of a drag may take
-const DEEPEST = 300, REST = 700; // edits that are kept; milliseconds after which steps by key are an edit
+const DEEPEST = 300, REST = 700, PAUSE = 120; // edits that are kept; milliseconds after which steps by key are an edit, and after which a drag rests
 const BACK = 1, AHEAD = 33, REMOVED = 32; // an edit at k changes no value before k-1 and none behind k+33, a removal none behind k+32
 
 export class Editor extends EventTarget {
@@ -25,7 +25,7 @@ export class Editor extends EventTarget {
     done = [];
     undone = [];
     drag = null; // what is being dragged: its place, the chart before, and the edit so far
-    late = false; // whether counts and ratings wait for the end of the drag, as its steps would take longer than a frame
+    late = false; // whether ratings and counts wait for the drag to rest, as a step would take longer than a frame with them
 
     constructor(module) {
         super();
@@ -67,18 +67,22 @@ export class Editor extends EventTarget {
         this.objects = Array.from({ length: count }, (_, k) => objectAt(bytes, k));
         this.values = [0, 1].map((player) => (this.players.includes(player) ? Array.from({ length: count }, (_, k) => (k ? this.station.values(player, k) : null)) : []));
         this.paths = new Map();
-        this.readFigures(true);
+        this.readFigures();
     }
 
-    /** The totals while playing of each player, whose last entry is the totals; counts and ratings too, or as they were. */
-    readFigures(all) {
+    /** The totals while playing of each player, whose last entry is the totals; ratings and counts. What would come later than a time stays as it was, but for the totals. */
+    readFigures(until = Infinity) {
+        const began = performance.now(), slow = until < Infinity && this.cost > FRAME / 2;
+        this.late = slow;
+        const unless = (old, read) => (old && (this.late ||= performance.now() > until) ? old : read());
         this.figures = [0, 1].map((player) => {
             if (!this.players.includes(player)) return null;
-            const playing = this.station.playing(player), old = this.figures[player], { mods, numbers } = this.asked[player];
-            const rest = all || !old ? { counts: this.station.countsOf(player), ratings: this.station.ratingsOf(player, mods, numbers) } : { counts: old.counts, ratings: old.ratings };
-            return { playing, totals: playing.slice(-TOTALS.length), ...rest };
+            const old = this.figures[player], { mods, numbers } = this.asked[player], playing = slow && old ? old.playing : this.station.playing(player);
+            const totals = playing === old?.playing ? this.station.totalsOf(player) : playing.slice(-TOTALS.length);
+            const ratings = unless(old?.ratings, () => this.station.ratingsOf(player, mods, numbers)), counts = unless(old?.counts, () => this.station.countsOf(player));
+            return { playing, totals, ratings, counts };
         });
-        this.late = !all;
+        if (until === Infinity) this.cost = (performance.now() - began) / 3; // about what the list of totals takes
     }
 
     /** Other mods and numbers for a player's ratings. */
@@ -153,7 +157,7 @@ export class Editor extends EventTarget {
     }
 
     /** Carries an edit out and reads what it can have changed; false where it is refused, and then nothing has. base is what the marks compare with. */
-    carry(edit, base = this.values.map((rows) => rows.slice()), all = true) {
+    carry(edit, base = this.values.map((rows) => rows.slice()), until = Infinity) {
         const refusal = this.call(edit);
         if (refusal) return this.refuse(edit, refusal);
         if (edit.kind === 'chart') {
@@ -162,7 +166,7 @@ export class Editor extends EventTarget {
             this.values = this.values.map((_, player) => (this.players.includes(player) ? Array.from({ length: count }, (__, k) => (k ? this.station.values(player, k) : null)) : []));
             this.paths = new Map();
         } else this.readAround(edit);
-        this.readFigures(all);
+        this.readFigures(until);
         this.marks = this.marked(edit, base);
         return true;
     }
@@ -181,12 +185,12 @@ export class Editor extends EventTarget {
         }
     }
 
-    /** What an edit changed, by bits: for each place the rows before, and the places that the theorem allows. */
-    marked({ place, moved, whole }, base) {
-        const last = this.objects.length - 1, from = whole ? 1 : Math.max(place - BACK, 1), to = whole ? last : Math.min(place + (moved < 0 ? REMOVED : AHEAD), last);
+    /** What an edit changed, by bits: for each place the rows before, and the places that the theorem allows. Where the chart was opened anew all places are compared, else those read again. */
+    marked({ kind, place, moved, whole }, base) {
+        const last = this.objects.length - 1, all = kind === 'chart', from = whole ? 1 : Math.max(place - BACK, 1), to = whole ? last : Math.min(place + (moved < 0 ? REMOVED : AHEAD), last);
         const was = (k) => (moved > 0 ? (k < place ? k : k === place ? -1 : k - 1) : moved < 0 && k >= place ? k + 1 : k);
         const marks = { place, moved, whole: Boolean(whole), from, to, rows: new Map(), changed: 0, outside: 0, lowest: Infinity, highest: -1 };
-        for (let k = 1; k <= last; k++) {
+        for (let k = all ? 1 : from; k <= (all ? last : to); k++) {
             const before = this.players.map((player) => base[player][was(k)] ?? null), now = this.players.map((player) => this.values[player][k]);
             if (before.every((row, i) => row === now[i])) continue;
             const count = now.reduce((sum, row, i) => sum + (before[i] ? row.filter((x, j) => !Object.is(x, before[i][j])).length : row.length), 0);
@@ -251,20 +255,28 @@ export class Editor extends EventTarget {
 
     grab(place) {
         this.settle();
-        this.drag = { place, bytes: this.bytes.slice(), base: this.values.map((rows) => rows.slice()), edit: null, last: 0 };
+        this.drag = { place, bytes: this.bytes.slice(), base: this.values.map((rows) => rows.slice()), edit: null };
     }
 
     /** The dragged object gets these fields. Where that is refused it stays where it was last. */
     dragTo(fields) {
-        const { place, bytes, base, edit: old, last } = this.drag, edit = changing(bytes, place, fields);
+        const { place, bytes, base, edit: old } = this.drag, began = performance.now(), edit = changing(bytes, place, fields);
         if (same(edit.after, old?.after ?? edit.before)) return this.tell('accepted');
-        const began = performance.now();
-        if (!this.carry(edit, base, last < FRAME)) return;
+        if (!this.carry(edit, base, began + FRAME / 2)) return;
         this.drag.edit = edit;
         this.tell('accepted');
         this.tell('edit', { place, moved: 0, whole: edit.kind === 'chart', dragging: true });
-        this.drag.last = performance.now() - began;
-        this.tell('step', { time: this.drag.last });
+        this.tell('step', { time: performance.now() - began });
+        clearTimeout(this.rest);
+        if (this.late) this.rest = setTimeout(() => this.catchUp(), PAUSE);
+    }
+
+    /** Reads what a drag left for later. */
+    catchUp() {
+        clearTimeout(this.rest);
+        if (!this.late) return;
+        this.readFigures();
+        this.tell('figures');
     }
 
     /** Ends a drag, which is then one edit. */
@@ -274,7 +286,7 @@ export class Editor extends EventTarget {
         if (!drag) return;
         this.drag = null;
         if (drag.edit && !isIdle(drag.edit)) this.keep(drag.edit);
-        if (this.late) this.readFigures(true);
+        this.catchUp();
         this.tell('accepted');
         if (drag.edit) this.tell('edit', { place: drag.place, moved: 0, whole: drag.edit.kind === 'chart' });
     }

@@ -106,8 +106,8 @@ class Strip {
     }
 
     drawGrid(c) {
-        const { grid, muted } = this.graphs.look.colours, { width, height } = this.surface, step = niceStep(this.top, height > 90 ? 4 : 2);
-        c.font = '10px system-ui, sans-serif';
+        const { grid, muted, size } = this.graphs.look.colours, { width, height } = this.surface, step = niceStep(this.top, height > 90 ? 4 : 2);
+        c.font = `${size * 0.8}px system-ui, sans-serif`;
         c.textAlign = 'right';
         c.fillStyle = muted;
         c.strokeStyle = grid;
@@ -117,11 +117,11 @@ class Strip {
             const y = Math.round(this.y(x)) + 0.5;
             c.moveTo(0, y);
             c.lineTo(width, y);
-            if (y > 9) c.fillText(String(Number(x.toPrecision(6))), width - 4, y - 2);
+            if (y > size * 0.75) c.fillText(String(Number(x.toPrecision(6))), width - 4, y - 2);
         }
         c.stroke();
         c.textAlign = 'left';
-        if (this.totals) c.fillText('totals while playing', 6, 12);
+        if (this.totals) c.fillText('totals while playing', 6, size);
     }
 
     drawLine(c, player, index, colour, first, last) {

@@ -5,19 +5,20 @@ import { FRONT, MOST_ENTRIES, NESTED, POINT, SETTINGS_SIZE, header } from './cha
 export { MODS, Refusal } from '../clients/station.mjs';
 const STATED_OBJECT = 64, RECORD = 16, VALUES = 5, AIM = 18, RHYTHM = 2, TOTALS = 4, COUNTS = 7, RATINGS = 4, NUMBER = 8;
 const LARGEST = FRONT + STATED_OBJECT * MOST + (NESTED + POINT) * MOST_ENTRIES;
-const SECOND = ['open_as', 'read_record_as', 'read_values_as', 'read_aim_parts_as', 'read_rhythm_as', 'counts_as', 'totals_while_playing_as', 'ratings_as',
+const SECOND = ['open_as', 'read_record_as', 'read_values_as', 'read_aim_parts_as', 'read_rhythm_as', 'totals_as', 'counts_as', 'totals_while_playing_as', 'ratings_as',
     'replace_both', 'insert_both', 'remove_both'];
 
-// The chart with as many zeros behind it as the largest has bytes, and the number of objects that it has room for.
+// The chart with as many zeros behind it as the largest has bytes, the number of objects that it has room for, and its own length.
 function roomy(bytes) {
     const objects = bytes.length < FRONT ? 0 : header(bytes).objects, room = MOST - Math.min(objects, MOST);
     const stated = bytes.length >= FRONT && header(bytes).stated === 1, size = stated ? STATED_OBJECT : 56;
     const padded = new Uint8Array(Math.max(bytes.length, LARGEST - room * size));
     padded.set(bytes);
-    return [padded, room];
+    return [padded, room, bytes.length];
 }
 
 export class Station extends Chart {
+    #given; // bytes of the chart as it was given: what is opened has no more
     #settings; // the second player's settings and tables
     #records;
     #values;
@@ -26,8 +27,9 @@ export class Station extends Chart {
         return new Station(await WebAssembly.instantiate(module, {}), ...roomy(bytes));
     }
 
-    constructor(instance, bytes, room) {
+    constructor(instance, bytes, room, given) {
         super(instance, bytes, room);
+        this.#given = given;
         /** Whether the library has the calls for a second player, and whether there is one. */
         this.forTwo = SECOND.every((name) => this.has(name));
         this.two = false;
@@ -47,16 +49,19 @@ export class Station extends Chart {
     become(bytes) {
         const old = this.chart.slice();
         this.memory(this.slices.chart).set(bytes);
+        this.#given = bytes.length;
         const refusal = this.open();
         if (!refusal) return null;
         this.memory(this.slices.chart).set(old);
-        if (this.two) super.open(); // the first player's tables may be the refused chart's
+        this.#given = old.length;
+        if (this.two) this.open(); // the first player's tables may be the refused chart's
         return refusal;
     }
 
-    /** Opens the chart, for both players where there are two. */
+    /** Opens the chart as it was given, for both players where there are two. */
     open() {
-        return super.open() ?? (this.two ? this.carry('open_as', this.slices.chart, this.#settings, this.#records, this.#values) : null);
+        const chart = { at: this.slices.chart.at, length: this.#given }, { records, values } = this.slices;
+        return this.carry('open', chart, records, values) ?? (this.two ? this.carry('open_as', chart, this.#settings, this.#records, this.#values) : null);
     }
 
     /** A second player with these settings, or none; a refusal leaves the one before. */
@@ -114,6 +119,10 @@ export class Station extends Chart {
 
     countsOf(player) {
         return player ? this.#as(COUNTS, 'counts', this.#values, ...this.slices.scratch) : this.counts();
+    }
+
+    totalsOf(player) {
+        return player ? this.#as(TOTALS, 'totals', this.#values, ...this.slices.scratch) : this.totals();
     }
 
     /** The totals after every number of objects; the last four numbers are those of the whole chart. */

@@ -72,6 +72,7 @@ class App {
         this.span.addEventListener('change', () => (this.timeline.draw(), this.graphs.draw(), this.overview.draw(), this.cursor()));
         matchMedia('(prefers-color-scheme: dark)').addEventListener('change', () => this.recolour());
         document.addEventListener('keydown', (e) => this.key(e));
+        addEventListener('resize', () => (this.look.colours = colours()));
         addEventListener('pagehide', () => this.keepNow());
         document.addEventListener('visibilitychange', () => document.hidden && this.keepNow());
     }

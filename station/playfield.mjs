@@ -73,11 +73,11 @@ export class Playfield {
         c.strokeStyle = line;
         c.strokeRect(left, top, FIELD.width * s, FIELD.height * s);
         c.fillStyle = muted;
-        c.font = `${Math.max(10, 11 * Math.min(s, 1.4))}px system-ui, sans-serif`;
+        c.font = `${this.colours.size * 0.86}px system-ui, sans-serif`;
         c.textAlign = 'left';
         c.fillText('0, 0', left, top - 5);
         c.textAlign = 'right';
-        c.fillText('512, 384', left + FIELD.width * s, top + FIELD.height * s + 14);
+        c.fillText('512, 384', left + FIELD.width * s, top + FIELD.height * s + this.colours.size * 1.1);
     }
 
     line(c, x0, y0, x1, y1) {

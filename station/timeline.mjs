@@ -2,7 +2,7 @@
 import { CIRCLE } from './chart.mjs';
 import { Surface, clock, niceStep } from './view.mjs';
 
-const RULER = 17, CLOSE = 9; // height of the ruler; pixels within which a note is hit
+const CLOSE = 9; // pixels within which a note is hit
 
 export class Timeline {
     constructor(canvas, bubble, editor, span, look) {
@@ -17,6 +17,11 @@ export class Timeline {
 
     x(time) {
         return this.span.x(time, this.surface.width);
+    }
+
+    /** The height of the ruler. */
+    get ruler() {
+        return this.look.colours.size * 1.3;
     }
 
     // ---------------------------------------------------------------- drawing
@@ -43,8 +48,8 @@ export class Timeline {
     }
 
     drawRuler(c) {
-        const { span, surface } = this, { muted, grid } = this.look.colours, step = niceStep(span.to - span.from, Math.max(surface.width / 90, 1)), digits = step >= 1000 ? 0 : step >= 100 ? 1 : 3;
-        c.font = '11px system-ui, sans-serif';
+        const { span, surface } = this, { muted, grid } = this.look.colours, step = niceStep(span.to - span.from, Math.max(surface.width / (this.ruler * 5.5), 1)), digits = step >= 1000 ? 0 : step >= 100 ? 1 : 3;
+        c.font = `${this.look.colours.size * 0.86}px system-ui, sans-serif`;
         c.textAlign = 'left';
         c.fillStyle = muted;
         c.strokeStyle = grid;
@@ -54,20 +59,20 @@ export class Timeline {
             const x = Math.round(this.x(t)) + 0.5;
             c.moveTo(x, 0);
             c.lineTo(x, surface.height);
-            c.fillText(clock(t, digits), x + 4, 12);
+            c.fillText(clock(t, digits), x + 4, this.ruler * 0.76);
         }
         c.stroke();
     }
 
     /** A note's size: what its neighbours leave, to a limit. */
     size(k) {
-        const { objects } = this.editor, x = (j) => this.x(objects[j].start), most = Math.min(13, (this.surface.height - RULER) / 2 - 4);
+        const { objects } = this.editor, x = (j) => this.x(objects[j].start), most = Math.min(this.look.colours.size, (this.surface.height - this.ruler) / 2 - 4);
         const gap = Math.min(k > 0 ? x(k) - x(k - 1) : 99, k + 1 < objects.length ? x(k + 1) - x(k) : 99);
         return Math.max(3, Math.min(most, gap / 2 - 0.5));
     }
 
     drawNote(c, k) {
-        const { editor, surface } = this, o = editor.objects[k], colours = this.look.colours, x = this.x(o.start), middle = RULER + (surface.height - RULER) / 2;
+        const { editor, surface } = this, o = editor.objects[k], colours = this.look.colours, x = this.x(o.start), middle = this.ruler + (surface.height - this.ruler) / 2;
         const chosen = k === editor.selected, r = chosen ? Math.max(this.size(k), 5) : this.size(k), changed = editor.marks?.rows.has(k) && !editor.marks.whole;
         if (o.kind !== CIRCLE) {
             c.globalAlpha = 0.4;
@@ -109,13 +114,13 @@ export class Timeline {
         if (this.bubble.hidden || !o) return;
         const x = this.x(o.start) + 16, most = this.surface.width - this.bubble.offsetWidth - 4;
         this.bubble.style.left = `${x <= most ? Math.max(x, 4) : Math.max(4, this.x(o.start) - 16 - this.bubble.offsetWidth)}px`;
-        this.bubble.style.top = `${RULER + (this.surface.height - RULER - this.bubble.offsetHeight) / 2}px`;
+        this.bubble.style.top = `${this.ruler + (this.surface.height - this.ruler - this.bubble.offsetHeight) / 2}px`;
     }
 
     // ---------------------------------------------------------------- by hand
 
     find({ x, y }) {
-        if (y < RULER) return -1;
+        if (y < this.ruler) return -1;
         const { objects, selected } = this.editor, far = (k) => Math.abs(this.x(objects[k].start) - x);
         if (selected >= 0 && far(selected) <= CLOSE) return selected;
         return this.seen().filter((k) => far(k) <= CLOSE).sort((a, b) => far(a) - far(b))[0] ?? -1;

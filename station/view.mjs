@@ -4,10 +4,10 @@ import { bitsOf, hex } from './text.mjs';
 const NAMES = ['paper', 'surface', 'ink', 'muted', 'line', 'grid', 'field', 'note', 'note-edge', 'note-ink', 'approach', 'select', 'changed', 'window', 'refused', 'aim', 'aim-plain', 'speed',
     'rhythm', 'flashlight', 'ghost'];
 
-/** The style sheet's colours by name, as they are now. */
+/** The style sheet's colours by name, as they are now, and the size of its type. */
 export function colours() {
     const style = getComputedStyle(document.documentElement);
-    return Object.fromEntries(NAMES.map((name) => [name, style.getPropertyValue('--' + name).trim()]));
+    return { ...Object.fromEntries(NAMES.map((name) => [name, style.getPropertyValue('--' + name).trim()])), size: parseFloat(style.fontSize) };
 }
 
 /** A canvas that has as many pixels as it takes on the screen; draw(context, width, height) is called when its size changes. */
