@@ -207,7 +207,7 @@ export class Editor extends EventTarget {
     refuse(edit, refusal) {
         const bytes = candidate(this.bytes, edit), unknown = refusal.number <= 6 && !reason(bytes, refusal.number, refusal.place);
         const words = editSentence(refusal, edit.place, bytes) + (unknown && this.station.two ? ', under the second player’s settings' : '');
-        this.tell('refusal', { place: edit.place, kind: edit.kind, words, number: refusal.number });
+        this.tell('refusal', { place: edit.place, kind: edit.kind, whole: Boolean(edit.whole), words });
         return false;
     }
 
@@ -264,6 +264,7 @@ export class Editor extends EventTarget {
         if (same(edit.after, old?.after ?? edit.before)) return this.tell('accepted');
         if (!this.carry(edit, base, began + FRAME / 2)) return;
         this.drag.edit = edit;
+        if (fields.start !== undefined) this.time = this.objects[place].start;
         this.tell('accepted');
         this.tell('edit', { place, moved: 0, whole: edit.kind === 'chart', dragging: true });
         this.tell('step', { time: performance.now() - began });
@@ -287,8 +288,7 @@ export class Editor extends EventTarget {
         this.drag = null;
         if (drag.edit && !isIdle(drag.edit)) this.keep(drag.edit);
         this.catchUp();
-        this.tell('accepted');
-        if (drag.edit) this.tell('edit', { place: drag.place, moved: 0, whole: drag.edit.kind === 'chart' });
+        if (drag.edit) this.tell('edit', { place: drag.place, moved: 0, whole: drag.edit.kind === 'chart', settled: true });
     }
 
     /** Lets a drag go: the object goes back. */
@@ -307,7 +307,7 @@ export class Editor extends EventTarget {
         if (!o) return;
         if (this.drag?.place !== place) this.grab(place);
         clearTimeout(this.timer);
-        this.dragTo({ x: o.x + dx, y: o.y + dy, start: o.start + dt, end: o.end + dt });
+        this.dragTo(dt ? { x: o.x, y: o.y, start: o.start + dt, end: o.end + dt } : { x: o.x + dx, y: o.y + dy, start: o.start, end: o.end });
         this.timer = setTimeout(() => this.settle(), REST);
     }
 

@@ -30,6 +30,7 @@ export class Files {
     async example(name) {
         this.menu.value = '';
         if (!name) return;
+        document.getElementById('playfield').focus();
         if (name === THOUSAND) return void (await this.editor.open(thousand(), THOUSAND));
         const answer = await fetch(`../examples/${name}.txt`);
         if (answer.ok) await this.takeText(await answer.text(), name);

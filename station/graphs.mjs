@@ -91,6 +91,7 @@ class Strip {
         drawWindow(c, editor, span, surface, look.colours);
         this.drawGrid(c);
         const [first, last] = some ? [Math.max(range[0], some[0] - 2), Math.min(range[1], some[1] + 2)] : range;
+        this.sparse = (range[1] - range[0]) * 9 < surface.width;
         for (const player of editor.players) for (const [index, colour] of this.lines) this.drawLine(c, player, index, look.colours[colour], first, last);
         if (editor.selected >= 0) this.drawSelected(c);
         c.restore();
@@ -161,11 +162,11 @@ class Strip {
 
     // A dot for each place where there is room; those that the last edit changed always have one.
     drawDots(c, player, index, colour, first, last, x) {
-        const { marks } = this.graphs.editor, { changed } = this.graphs.look.colours, sparse = (last - first) * 9 < this.surface.width;
+        const { marks } = this.graphs.editor, { changed } = this.graphs.look.colours;
         for (let k = first; k <= last; k++) {
             const before = marks && !marks.whole ? marks.rows.get(k) : undefined, y = this.at(player, index, k);
             const isNew = before && (!before[player] || !Object.is(before[player][index], y));
-            if (!(isNew || sparse) || !Number.isFinite(y)) continue;
+            if (!(isNew || this.sparse) || !Number.isFinite(y)) continue;
             c.beginPath();
             c.arc(x(k), this.y(y), isNew ? 3 : 1.9, 0, 2 * Math.PI);
             c.fillStyle = isNew ? changed : colour;

@@ -13,7 +13,8 @@ const KEYS = {
         ['N', 'put a note of the chosen kind in, at the time shown'],
         ['C S P', 'put in a circle, a slider, a spinner'],
         ['Ctrl Z', 'undo; with Shift (or Ctrl Y) redo'],
-        ['Ctrl O, Ctrl S', 'open a file, save the chart'],
+        ['Ctrl O', 'open a file'],
+        ['Ctrl S', 'save the chart'],
         ['T', 'the chart as text'],
     ],
     'What is shown': [

@@ -11,7 +11,7 @@ import { keepChart, keepRest, keptChart, keptRest } from './storage.mjs';
 import { Overview, Timeline } from './timeline.mjs';
 import { Span, clock, colours, shown } from './view.mjs';
 
-const WASM = '../target/wasm/station.wasm', MODES = ['short', 'all', 'bits'], THEMES = ['system', 'light', 'dark'];
+const WASM = '../target/wasm/station.wasm', MODES = ['short', 'all', 'bits'], THEMES = ['system', 'light', 'dark'], STAYS = 6000;
 const id = (name) => document.getElementById(name);
 
 // ---------------------------------------------------------------- messages
@@ -66,7 +66,7 @@ class App {
         on('time', () => this.timeShown());
         on('figures', () => (this.panel.showFigures(), this.keep()));
         on('refusal', (refusal) => this.refused(refusal));
-        on('accepted', () => (this.playfield.accept(), this.timeline.accept()));
+        on('accepted', () => this.accepted());
         on('step', ({ time }) => this.meter(time));
         on('said', ({ words }) => say(words));
         this.span.addEventListener('change', () => (this.timeline.draw(), this.graphs.draw(), this.overview.draw(), this.cursor()));
@@ -82,11 +82,11 @@ class App {
     newChart() {
         const { editor, span } = this;
         document.title = `${editor.name} · Station`;
+        id('note').hidden = true;
         this.playing(false);
         span.bound(editor.objects);
         span.set(span.whole[0], Math.min(span.whole[1], span.whole[0] + 30_000));
-        this.playfield.accept();
-        this.timeline.accept();
+        this.accepted();
         this.settings.make();
         this.drawAll();
         this.keep();
@@ -103,7 +103,7 @@ class App {
         this.enable();
     }
 
-    edited({ place, moved, whole, dragging }) {
+    edited({ place, moved, whole, dragging, settled }) {
         const { editor } = this;
         if (!dragging) this.span.bound(editor.objects);
         if (moved !== 0 && editor.selected >= 0 && moved !== undefined) editor.seek(editor.objects[editor.selected].start);
@@ -113,9 +113,9 @@ class App {
         this.timeline.draw();
         if (whole) this.graphs.draw();
         else this.graphs.drawAround(place);
+        this.cursor();
         if (dragging) return;
-        this.playfield.accept();
-        this.timeline.accept();
+        if (!settled) this.accepted();
         this.overview.draw();
         this.enable();
         if (whole && document.activeElement?.closest('#settings') === null) this.settings.make();
@@ -147,12 +147,20 @@ class App {
         id('clock').textContent = clock(this.editor.time);
     }
 
-    refused({ place, words, kind }) {
-        this.timeline.accept();
-        this.playfield.accept();
+    refused({ place, words, kind, whole }) {
+        if (whole) return; // said beside the settings
+        this.accepted();
+        this.saying = setTimeout(() => this.accepted(), STAYS);
         if (this.timeline.pointer?.grabbed) this.timeline.refuse(place, words);
         else if (this.editor.objects.length && kind !== 'remove') this.playfield.refuse(Math.min(place, this.editor.objects.length - 1), words);
         else say(words);
+    }
+
+    /** Takes the sentence beside the note away. */
+    accepted() {
+        clearTimeout(this.saying);
+        this.playfield.accept();
+        this.timeline.accept();
     }
 
     meter(time) {
@@ -271,7 +279,8 @@ class App {
     key(event) {
         const { target } = event, typing = target.closest('input:not([type=checkbox]):not([type=radio]), textarea, select, dialog');
         if (typing || event.altKey) return;
-        if (target.closest('button, [type=checkbox], [type=radio]') && [' ', 'Enter', 'ArrowLeft', 'ArrowRight', 'ArrowUp', 'ArrowDown'].includes(event.key)) return;
+        if (target.closest('button, [type=checkbox], [type=radio]') && [' ', 'Enter'].includes(event.key)) return;
+        if (target.closest('[role=tab], [type=radio]') && event.key.startsWith('Arrow')) return;
         const act = event.ctrlKey || event.metaKey ? this.controlled(event.key, event.shiftKey) : this.action(event.key, event.shiftKey);
         if (!act) return;
         event.preventDefault();

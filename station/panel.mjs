@@ -9,7 +9,10 @@ const PARTS = ['value', 'velocity', 'velocity before', 'wide bonus', 'acute bonu
 const RULES = ['there are fewer than two records before, and all parts are 0', 'a spinner is here or before, and all parts are 0', 'the acute side answers', 'the wide side answers'];
 const RECORD = ['start time', 'delta time', 'adjusted delta', 'lazy jump distance', 'min. jump distance', 'min. jump time', 'travel distance', 'travel time', 'lazy end x', 'lazy end y',
     'lazy travel dist.', 'lazy travel time', 'angle', 'small circle bonus', 'has lazy end', 'has angle'];
-const COUNTS = ['strains, aim', 'strains, aim without sliders', 'strains, speed', 'sliders, aim without sliders', 'sliders, speed', 'difficult sliders, aim', 'relevant notes'];
+const SUMS = ['aim', 'aim, no sliders', 'speed', 'flashlight'];
+const COUNTS = [['strains, aim', 'weighted strains for aim'], ['strains, no sliders', 'weighted strains for aim without sliders'], ['strains, speed', 'weighted strains for speed'],
+    ['sliders, aim', 'weighted sliders for aim without sliders'], ['sliders, speed', 'weighted sliders for speed'], ['difficult sliders', 'difficult sliders for aim'],
+    ['relevant notes', 'relevant notes for speed']];
 const RATINGS = ['aim rating', 'speed rating', 'flashlight rating', 'stars'];
 const FIELDS = [['start', 'start', 'ms'], ['x', 'x', ''], ['y', 'y', ''], ['end', 'end', 'ms'], ['stackX', 'stack x', ''], ['stackY', 'stack y', ''], ['spans', 'spans', ''], ['length', 'length', 'px']];
 
@@ -52,7 +55,7 @@ function write(cell, x, mode) {
 }
 
 function signed(x) {
-    return `${x > 0 ? '+' : x < 0 ? '−' : '±'}${shown(Math.abs(Number(x.toPrecision(4))), 'short')}`;
+    return `${x > 0 ? '+' : x < 0 ? '−' : '±'}${shown(Math.abs(Number(x.toPrecision(3))), 'short')}`;
 }
 
 export class Panel {
@@ -87,9 +90,10 @@ export class Panel {
         this.fault = element('p', { class: 'line fault', role: 'status' });
         this.ids.figures.replaceChildren(totals, ratings, this.fault, counts);
         const columns = two ? ['player 1', 'player 2'] : [''];
-        this.totals = new Grid(totals, TOTALS, columns, 'totals');
+        this.totals = new Grid(totals, SUMS, columns, 'totals');
         this.ratings = new Grid(ratings, RATINGS, columns, 'ratings');
-        this.counts = new Grid(counts, COUNTS, columns, 'weighted counts');
+        this.counts = new Grid(counts, COUNTS.map(([name]) => name), columns, 'counts');
+        COUNTS.forEach(([, words], i) => (counts.tBodies[0].rows[i].title = words));
     }
 
     makeWhose() {

@@ -241,13 +241,16 @@ export class Playfield {
         this.bubble.hidden = true;
     }
 
+    // To the right of the note, or to the left, or below, or above: where there is room.
     placeBubble() {
-        const o = this.editor.objects[this.near];
+        const o = this.editor.objects[this.near], { offsetWidth: w, offsetHeight: h } = this.bubble;
         if (this.bubble.hidden || !o) return;
-        const [x, y] = this.head(o), r = o.kind === SPINNER ? 16 : this.settings.numbers[1] * this.scale, { width, height } = this.surface;
-        const right = x + r + 10 + this.bubble.offsetWidth <= width, left = right ? x + r + 10 : Math.max(4, x - r - 10 - this.bubble.offsetWidth);
+        const [x, y] = this.head(o), far = (o.kind === SPINNER ? 16 : this.settings.numbers[1] * this.scale) + 12, { width, height } = this.surface;
+        const inside = (at, most) => Math.min(Math.max(at, 4), most - 4), beside = x + far + w <= width - 4 || x - far - w >= 4;
+        const left = !beside ? inside(x - w / 2, width - w) : x + far + w <= width - 4 ? x + far : x - far - w;
+        const top = beside ? inside(y - h / 2, height - h) : y + far + h <= height - 4 ? y + far : inside(y - far - h, height - h);
         this.bubble.style.left = `${left}px`;
-        this.bubble.style.top = `${Math.min(Math.max(y - this.bubble.offsetHeight / 2, 4), height - this.bubble.offsetHeight - 4)}px`;
+        this.bubble.style.top = `${top}px`;
     }
 
     // ---------------------------------------------------------------- by hand

@@ -1,11 +1,10 @@
-// Settings of both players: the chart's own, which are bytes 32 to 79 of its header, those of a second player, and the mods and numbers that come with the ratings of each.
+// Settings of the players side by side: the chart's own, which are bytes 32 to 79 of its header, those of a second player, and the mods and numbers that come with the ratings of each.
 import { FLAGS, RANGES, readSettings, writeSettings } from './chart.mjs';
 import { MODS } from './library.mjs';
-import { settingFault } from './words.mjs';
 import { element, single } from './view.mjs';
+import { settingFault } from './words.mjs';
 
-const NUMBERS = [['approachRate', 'approach rate'], ['overallDifficulty', 'overall difficulty'], ['baseMultiplier', 'base multiplier'], ['attractionStrength', 'attraction strength'],
-    ['startScale', 'start scale']];
+const NUMBERS = { approachRate: 'approach rate', overallDifficulty: 'overall difficulty', baseMultiplier: 'base multiplier', attractionStrength: 'attraction strength', startScale: 'start scale' };
 const OPTIONAL = ['attractionStrength', 'startScale'];
 const MOD_NAMES = { autopilot: 'autopilot', relax: 'relax', touchDevice: 'touch device', hidden: 'hidden', flashlight: 'flashlight', traceable: 'traceable', fadeOnly: 'fade only' };
 
@@ -16,61 +15,61 @@ export function usual() {
 
 export class Settings {
     constructor(parent, editor) {
-        Object.assign(this, { parent, editor, players: [] });
+        Object.assign(this, { parent, editor });
     }
 
-    /** Makes the forms anew; the second player's only where the library has the calls. */
+    /** Makes the table anew, with a column for each player; the second one can be had only where the library has the calls. */
     make() {
-        const { editor } = this;
-        this.players = [];
-        this.parent.replaceChildren(this.form(0, editor.settings));
-        if (editor.station.forTwo) this.parent.append(this.toggle());
-        if (editor.station.two) this.parent.append(this.form(1, editor.second));
+        const { editor } = this, { players } = editor;
+        this.fault = element('p', { class: 'line fault', role: 'alert' });
+        this.inputs = players.map(() => ({}));
+        const heads = players.map((player) => element('th', { scope: 'col' }, players.length > 1 ? `player ${player + 1}` : ''));
+        const given = players.map((player) => readSettings(player ? editor.second : editor.settings));
+        const rows = RANGES.map(({ name, width, unit }, i) => this.row(name, name.replace('-', ' ') + (unit && `, ${unit}`), given.map(({ numbers }) => (width === 32 ? single(numbers[i]) : numbers[i])), 'enter'));
+        rows.push(...FLAGS.map((name, i) => this.row(`flag-${name}`, name, given.map(({ flags }) => Boolean((flags >> i) & 1)), 'enter')));
+        const asked = players.map((player) => editor.asked[player]), optional = (name) => (OPTIONAL.includes(name) ? ', if any' : '');
+        const more = Object.entries(NUMBERS).map(([name, label]) => this.row(name, label + optional(name), asked.map(({ numbers }) => numbers[name] ?? ''), 'ask'));
+        more.push(...Object.entries(MOD_NAMES).map(([name, label]) => this.row(name, label, asked.map(({ mods }) => Boolean(mods & MODS[name])), 'ask')));
+        const table = (caption, body) => element('table', { class: 'numbers entries' }, element('thead', {}, element('tr', {}, element('th', { scope: 'col', class: 'caption' }, caption), ...heads.map((head) => head.cloneNode(true)))),
+            element('tbody', {}, ...body));
+        this.parent.replaceChildren(...(editor.station.forTwo ? [this.toggle()] : []), table('of the chart', rows), this.fault, table('for the ratings', more));
+    }
+
+    /** A row of the table: a number or a box for each player, which calls a method when it is changed. */
+    row(name, label, values, method) {
+        const cells = values.map((value, player) => {
+            const words = { id: `p${player}-${name}`, 'aria-label': values.length > 1 ? `${label}, player ${player + 1}` : label, onchange: () => this[method](player) };
+            const input = typeof value === 'boolean' ? element('input', { type: 'checkbox', checked: value, ...words }) : element('input', { type: 'number', step: 'any', value, ...words });
+            this.inputs[player][name] = input;
+            return element('td', {}, input);
+        });
+        return element('tr', {}, element('th', { scope: 'row' }, label), ...cells);
     }
 
     toggle() {
-        const box = element('input', {
-            type: 'checkbox', id: 'second', checked: this.editor.station.two, onchange: () => {
-                const fault = this.editor.setSecond(box.checked ? this.editor.second ?? this.editor.settings : null);
-                if (fault) this.editor.tell('said', { words: fault });
-                this.make();
-                document.getElementById('second').focus();
-            },
+        const { editor } = this, box = element('input', { type: 'checkbox', id: 'second', checked: editor.station.two });
+        box.addEventListener('change', () => {
+            const fault = editor.setSecond(box.checked ? editor.second ?? editor.settings : null);
+            this.make();
+            this.fault.textContent = fault ?? '';
+            document.getElementById('second').focus();
         });
         return element('label', { class: 'second' }, box, ' a second player, side by side');
     }
 
-    form(player, settings) {
-        const { numbers, flags } = readSettings(settings), asked = this.editor.asked[player], fault = element('p', { class: 'line fault', role: 'alert' }), id = (name) => `p${player}-${name}`;
-        const row = (name, label, input) => element('label', { for: id(name) }, element('span', {}, label), input);
-        const number = (name, value, change) => element('input', { type: 'number', step: 'any', id: id(name), value: value ?? '', onchange: change });
-        const boxes = {}, own = RANGES.map((r, i) => number(r.name, r.width === 32 ? single(numbers[i]) : numbers[i], () => enter()));
-        const box = (name, label, on, change) => (boxes[name] = element('input', { type: 'checkbox', id: id(name), checked: on, onchange: change }), element('label', { class: 'check', for: id(name) }, boxes[name], ` ${label}`));
-        const enter = () => {
-            const given = { numbers: own.map((input) => input.valueAsNumber), flags: FLAGS.reduce((sum, name, i) => sum | (boxes[`flag-${name}`].checked ? 1 << i : 0), 0) };
-            fault.textContent = this.enter(player, writeSettings(given)) ?? '';
-        };
-        const inputs = {}, ask = () => this.ask(player, boxes, inputs);
-        for (const [name] of NUMBERS) inputs[name] = number(name, asked.numbers[name], ask);
-        return element('fieldset', {}, element('legend', {}, player ? 'Player 2' : this.editor.station.forTwo ? 'Player 1, the chart’s settings' : 'The chart’s settings'),
-            element('div', { class: 'fields' }, ...RANGES.map((r, i) => row(r.name, r.unit ? `${r.name.replace('-', ' ')}, ${r.unit}` : r.name.replace('-', ' '), own[i]))),
-            element('div', { class: 'checks' }, ...FLAGS.map((name, i) => box(`flag-${name}`, name, Boolean((flags >> i) & 1), enter))), fault,
-            element('h3', {}, 'For the ratings'),
-            element('div', { class: 'fields' }, ...NUMBERS.map(([name, label]) => row(name, OPTIONAL.includes(name) ? `${label} (if any)` : label, inputs[name]))),
-            element('div', { class: 'checks' }, ...Object.entries(MOD_NAMES).map(([name, label]) => box(name, label, Boolean(asked.mods & MODS[name]), ask))));
+    /** Settings of a player as they are entered; what is refused is said, and stays as it was. */
+    enter(player) {
+        const { editor } = this, inputs = this.inputs[player];
+        const flags = FLAGS.reduce((sum, name, i) => sum | (inputs[`flag-${name}`].checked ? 1 << i : 0), 0);
+        const settings = writeSettings({ numbers: RANGES.map(({ name }) => inputs[name].valueAsNumber), flags }), wrong = settingFault(settings);
+        const fault = player ? editor.setSecond(settings) : editor.set(settings) ? null : wrong && `${wrong} (2)`;
+        this.fault.textContent = fault ?? '';
     }
 
-    /** Settings of a player as they are entered; the sentence where they are refused. */
-    enter(player, settings) {
-        const fault = settingFault(settings);
-        if (player) return this.editor.setSecond(settings);
-        return this.editor.set(settings) ? null : fault && `${fault} (2)`;
-    }
-
-    ask(player, boxes, inputs) {
-        const numbers = {};
-        for (const [name, input] of Object.entries(inputs)) if (!OPTIONAL.includes(name) || input.value !== '') numbers[name] = input.valueAsNumber;
-        const mods = Object.keys(MOD_NAMES).reduce((sum, name) => sum | (boxes[name].checked ? MODS[name] : 0), 0);
-        this.editor.ask(player, { mods, numbers });
+    /** Mods and numbers of a player as they are entered. */
+    ask(player) {
+        const inputs = this.inputs[player], numbers = {};
+        for (const name of Object.keys(NUMBERS)) if (!OPTIONAL.includes(name) || inputs[name].value !== '') numbers[name] = inputs[name].valueAsNumber;
+        this.editor.ask(player, { mods: Object.keys(MOD_NAMES).reduce((sum, name) => sum | (inputs[name].checked ? MODS[name] : 0), 0), numbers });
     }
 }

@@ -88,7 +88,7 @@ export class Timeline {
         c.fill();
         c.lineWidth = chosen || changed ? 2 : 1;
         c.strokeStyle = changed && !chosen ? colours.changed : colours['note-edge'];
-        c.stroke();
+        if (r >= 4 || chosen || changed) c.stroke();
         if (r < 8) return;
         c.font = `${k > 99 ? r * 0.75 : r * 0.9}px system-ui, sans-serif`;
         c.textAlign = 'center';

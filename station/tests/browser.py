@@ -260,6 +260,37 @@ def speed(page):
     return steps[len(steps) // 2], steps[len(steps) * 19 // 20], len(steps)
 
 
+def two_players(page, checks):
+    """A second player beside the first, where the library has the calls: its values are the lister's of the chart under its settings, and an edit that one is refused is refused for both."""
+    if not page.run("return station.editor.station.forTwo"):
+        return "no second player, as the library has no calls for one"
+    page.click("tab-settings")
+    page.click("second")
+    page.enter("p1-clock-rate", "1.5")
+    page.enter("p1-radius", "30")
+    page.click("p1-flag-autopilot")
+    for edit in (lambda: None, lambda: page.drag(page.note(3), [(7, 3)] * 4), lambda: page.keys("n"), lambda: page.keys(Keys.DELETE), lambda: page.control("z"),
+                 lambda: (page.go_to(5), page.drag(page.note(5), [(5, 5)] * 3))):
+        page.run("document.getElementById('playfield').focus()")
+        edit()
+        data = checks.same("the first of two players")
+        settings = bytes(page.run("return Array.from(station.editor.second)"))
+        rows, totals, counts = listed(data[:32] + settings + data[80:])
+        shown = page.shown(1)
+        assert [place[1:6] for place in shown["places"][1:]] == rows and shown["totals"] == totals and shown["counts"] == counts, "the second of two players"
+        checks.compared += 5 * len(rows) + len(totals) + len(counts)
+    page.run("station.editor.setSecond(station.editor.settings)")
+    page.run("const s = station.editor.settings; new DataView(s.buffer).setFloat64(0, 0.25, true); station.editor.setSecond(s)")
+    page.go_to(page.run("return station.editor.objects.length - 1"))
+    kept = checks.refused("too long in time for the second player", lambda: page.enter("field-start", "900000"), "(6)")
+    checks.unmoved("a refusal for the second player", *kept)
+    page.reload()
+    assert page.run("return station.editor.station.two"), "the second player is lost by a reload"
+    page.click("tab-settings")
+    page.click("second")
+    return "a second player beside the first"
+
+
 def labelled(page):
     """Everything that takes the keyboard has a name, the help opens and closes, and nothing came from elsewhere."""
     nameless = page.run("""
@@ -287,10 +318,11 @@ def run():
         rating(page)
         wrong = files(page, checks)
         reloading(page, checks)
+        two = two_players(page, checks)
         labelled(page)
         middle, most, steps = speed(page)
         assert not page.faults()
-    line = (f"page in chromium: {drags} drags, keys, insertions, removals, undo and redo, {refused} refusals, {wrong} files opened or refused, a reload; "
+    line = (f"page in chromium: {drags} drags, keys, insertions, removals, undo and redo, {refused} refusals, {wrong} files opened or refused, a reload, {two}; "
             f"{checks.compared} shown numbers as the lister has them; a drag step of 1,000 notes {middle:.1f} ms, 19 of 20 of {steps} within {most:.1f} ms")
     print(f"station, {line} ({time.time() - began:.0f} s)", flush=True)
     return line
