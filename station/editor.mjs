@@ -233,22 +233,21 @@ export class Editor extends EventTarget {
 
     undo() {
         this.settle();
-        const edit = this.done.pop();
-        if (!edit) return;
-        this.undone.push(edit);
-        this.carry(inverse(edit));
-        this.selected = edit.place;
-        this.showEdit(inverse(edit));
+        this.turn(this.done, this.undone, inverse);
     }
 
     redo() {
         this.settle();
-        const edit = this.undone.pop();
-        if (!edit) return;
-        this.done.push(edit);
-        this.carry(edit);
+        this.turn(this.undone, this.done, (edit) => edit);
+    }
+
+    /** Takes the last edit from one list to the other and carries it out as it is turned. */
+    turn(from, to, turned) {
+        const edit = from.at(-1);
+        if (!edit || !this.carry(turned(edit))) return;
+        to.push(from.pop());
         this.selected = edit.place;
-        this.showEdit(edit);
+        this.showEdit(turned(edit));
     }
 
     // ---------------------------------------------------------------- dragging: many steps, one edit
@@ -260,6 +259,7 @@ export class Editor extends EventTarget {
 
     /** The dragged object gets these fields. Where that is refused it stays where it was last. */
     dragTo(fields) {
+        if (!this.drag) return;
         const { place, bytes, base, edit: old } = this.drag, began = performance.now(), edit = changing(bytes, place, fields);
         if (same(edit.after, old?.after ?? edit.before)) return this.tell('accepted');
         if (!this.carry(edit, base, began + FRAME / 2)) return;

@@ -7,7 +7,7 @@ import { makeHelp } from './help.mjs';
 import { Panel, marksSentence } from './panel.mjs';
 import { Playfield } from './playfield.mjs';
 import { Settings, usual } from './settings.mjs';
-import { keepChart, keepRest, keptChart, keptRest } from './storage.mjs';
+import { keepChart, keepHistory, keepRest, keptChart, keptHistory, keptRest } from './storage.mjs';
 import { Overview, Timeline } from './timeline.mjs';
 import { Span, clock, colours, shown } from './view.mjs';
 
@@ -299,6 +299,7 @@ class App {
         const { editor, look } = this;
         if (!editor.station) return;
         const kept = keepChart(editor.name, editor.bytes);
+        keepHistory(kept ? editor.done : [], kept ? editor.undone : []);
         keepRest({ mode: look.mode, theme: look.theme, asked: editor.asked, second: editor.second, selected: editor.selected, time: editor.time });
         if (!kept && !this.warned) say('The browser has no room to keep this chart over a reload: save it to a file.');
         this.warned = !kept;
@@ -310,8 +311,9 @@ class App {
         this.setMode(MODES.includes(rest.mode) ? rest.mode : 'short');
         editor.asked = [0, 1].map((player) => rest.asked?.[player] ?? usual());
         editor.second = rest.second ?? null;
-        const refused = chart ? await editor.open(chart.bytes, chart.name) : 'none';
+        const history = keptHistory(), refused = chart ? await editor.open(chart.bytes, chart.name) : 'none';
         if (refused) return this.files.example('verse');
+        Object.assign(editor, history);
         if (rest.selected > 0) editor.select(rest.selected);
         if (rest.time >= 0) editor.seek(rest.time);
     }

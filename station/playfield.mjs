@@ -266,7 +266,6 @@ export class Playfield {
 
     press(event) {
         if (event.button !== 0 || !this.editor.station) return;
-        this.surface.canvas.focus();
         const at = this.surface.at(event), place = this.find(at);
         this.accept();
         if (place < 0) return;

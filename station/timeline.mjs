@@ -128,7 +128,6 @@ export class Timeline {
 
     press(event) {
         if (event.button !== 0 || !this.editor.station) return;
-        this.surface.canvas.focus();
         const at = this.surface.at(event), place = this.find(at);
         this.accept();
         this.surface.canvas.setPointerCapture(event.pointerId);

@@ -233,6 +233,11 @@ def reloading(page, checks):
     data = checks.same("before a reload")
     page.reload()
     assert checks.same("after a reload") == data and page.run("return station.editor.selected") == 6
+    page.control("z")
+    assert checks.same("undone after a reload") != data
+    page.reload()
+    page.control("z", shift=True)
+    assert checks.same("redone after a reload") == data
     assert page.run("return document.getElementById('digits').value") == "bits"
 
 
