@@ -13,7 +13,10 @@ export class Files {
         const id = (name) => document.getElementById(name);
         Object.assign(this, { input: id('file'), menu: id('examples'), dialog: id('text-dialog'), area: id('text-area'), fault: id('text-fault') });
         for (const [value, words] of [...EXAMPLES, [THOUSAND, 'A thousand notes']]) this.menu.append(element('option', { value }, words));
-        this.menu.addEventListener('change', () => this.example(this.menu.value));
+        this.menu.addEventListener('change', () => {
+            this.example(this.menu.value);
+            id('playfield').focus();
+        });
         id('open').addEventListener('click', () => this.input.click());
         this.input.addEventListener('change', () => this.take(this.input.files[0]));
         id('save').addEventListener('click', () => this.save());
@@ -30,7 +33,6 @@ export class Files {
     async example(name) {
         this.menu.value = '';
         if (!name) return;
-        document.getElementById('playfield').focus();
         if (name === THOUSAND) return void (await this.editor.open(thousand(), THOUSAND));
         const answer = await fetch(`../examples/${name}.txt`);
         if (answer.ok) await this.takeText(await answer.text(), name);

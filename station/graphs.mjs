@@ -90,17 +90,17 @@ class Strip {
         c.clearRect(0, 0, surface.width, surface.height);
         drawWindow(c, editor, span, surface, look.colours);
         this.drawGrid(c);
-        const [first, last] = some ? [Math.max(range[0], some[0] - 2), Math.min(range[1], some[1] + 2)] : range;
         this.sparse = (range[1] - range[0]) * 9 < surface.width;
-        for (const player of editor.players) for (const [index, colour] of this.lines) this.drawLine(c, player, index, look.colours[colour], first, last);
+        for (const player of editor.players) for (const [index, colour] of this.lines) this.drawLine(c, player, index, look.colours[colour], ...range);
         if (editor.selected >= 0) this.drawSelected(c);
         c.restore();
         this.write();
     }
 
+    /** Confines drawing to what lies from place to place, with some room. */
     clip(c, [from, to]) {
         const { objects } = this.graphs.editor, { width, height } = this.surface, x = (k) => this.graphs.span.x(objects[k].start, width);
-        const left = from > 1 ? x(from - 1) - ROOM : 0, right = to < objects.length - 1 ? x(to + 1) + ROOM : width;
+        const left = from > 1 ? Math.floor(x(from - 1)) - ROOM : 0, right = to < objects.length - 1 ? Math.ceil(x(to + 1)) + ROOM : width;
         c.beginPath();
         c.rect(left, 0, right - left, height);
         c.clip();
