@@ -1,7 +1,7 @@
 // What is edited: the chart in the library, what was read of it, the selected place, the time that is shown, and what was done and undone.
 // Every change is a call: replace, insert, remove, or, where nested entries, points or settings change, the opening of the chart as it becomes.
 import { SETTINGS_AT, SPINNER, SLIDER, followed, nestedOf, objectAt, plainObject, pointsOf, readObject, settingsOf } from './chart.mjs';
-import { candidate, changing, inserting, insertingSlider, inverse, isIdle, placeFor, removing, same, setting } from './edits.mjs';
+import { candidate, changing, inserting, insertingSlider, inverse, isIdle, opening, placeFor, removing, same, setting } from './edits.mjs';
 import { Station, isRefusal } from './library.mjs';
 import { editSentence, openingSentence, reason } from './words.mjs';
 
@@ -47,27 +47,58 @@ export class Editor extends EventTarget {
 
     // ---------------------------------------------------------------- opening and reading
 
-    /** Opens another chart; a sentence where it is refused, and the one before stays. Lines are those of the objects in its text. */
+    /** Opens another chart, which can be undone; a sentence where it is refused, and the one before stays. Lines are those of the objects in its text. */
     async open(bytes, name, lines = []) {
-        const station = await Station.make(this.module, bytes), refusal = station.open();
+        this.settle();
+        const refusal = this.station ? this.become(bytes, name) : await this.begin(bytes, name);
         if (refusal) return openingSentence(refusal, bytes, lines);
-        Object.assign(this, { station, name, done: [], undone: [], marks: null, drag: null, late: false });
-        const refused = this.second && station.forTwo ? station.setSecond(this.second) : null;
-        if (refused) this.second = null;
-        this.selected = Math.min(station.objects - 1, 1);
-        this.readAll();
-        this.time = this.objects[this.selected]?.start ?? 0;
-        this.tell('chart');
-        if (refused) this.tell('said', { words: 'The second player is left out: this chart is refused under those settings.' });
+        this.showChart();
         return null;
     }
 
+    /** The first chart. */
+    async begin(bytes, name) {
+        const station = await Station.make(this.module, bytes), refusal = station.open();
+        if (refusal) return refusal;
+        Object.assign(this, { station, name });
+        if (this.second && (!station.forTwo || station.setSecond(this.second))) this.second = null;
+        return null;
+    }
+
+    /** Another chart in place of this one; a second player whose settings do not go with it is left out. */
+    become(bytes, name) {
+        const edit = opening(this.bytes, bytes, [this.name, name]);
+        let refusal = this.call(edit);
+        if (refusal && this.station.two) {
+            this.station.setSecond(null);
+            refusal = this.call(edit);
+            if (refusal) this.station.setSecond(this.second);
+            else this.second = null;
+        }
+        if (refusal) return refusal;
+        this.name = name;
+        this.keep({ ...edit, after: this.bytes.slice() });
+        return null;
+    }
+
+    showChart() {
+        Object.assign(this, { marks: null, late: false, selected: Math.min(this.station.objects - 1, 1) });
+        this.readAll();
+        this.time = this.objects[this.selected]?.start ?? 0;
+        this.tell('chart');
+    }
+
     readAll() {
-        const count = this.station.objects, bytes = this.bytes;
-        this.objects = Array.from({ length: count }, (_, k) => objectAt(bytes, k));
-        this.values = [0, 1].map((player) => (this.players.includes(player) ? Array.from({ length: count }, (_, k) => (k ? this.station.values(player, k) : null)) : []));
-        this.paths = new Map();
+        this.readPlaces();
         this.readFigures();
+    }
+
+    /** All objects and values. */
+    readPlaces() {
+        const length = this.station.objects, bytes = this.bytes, rows = (player) => Array.from({ length }, (_, k) => (k ? this.station.values(player, k) : null));
+        this.objects = Array.from({ length }, (_, k) => objectAt(bytes, k));
+        this.values = [0, 1].map((player) => (this.players.includes(player) ? rows(player) : []));
+        this.paths = new Map();
     }
 
     /** The totals while playing of each player, whose last entry is the totals; ratings and counts. What would come later than a time stays as it was, but for the totals. */
@@ -160,12 +191,8 @@ export class Editor extends EventTarget {
     carry(edit, base = this.values.map((rows) => rows.slice()), until = Infinity) {
         const refusal = this.call(edit);
         if (refusal) return this.refuse(edit, refusal);
-        if (edit.kind === 'chart') {
-            const count = this.station.objects, bytes = this.bytes;
-            this.objects = Array.from({ length: count }, (_, k) => objectAt(bytes, k));
-            this.values = this.values.map((_, player) => (this.players.includes(player) ? Array.from({ length: count }, (__, k) => (k ? this.station.values(player, k) : null)) : []));
-            this.paths = new Map();
-        } else this.readAround(edit);
+        if (edit.kind === 'chart') this.readPlaces();
+        else this.readAround(edit);
         this.readFigures(until);
         this.marks = this.marked(edit, base);
         return true;
@@ -205,8 +232,13 @@ export class Editor extends EventTarget {
     }
 
     refuse(edit, refusal) {
-        const bytes = candidate(this.bytes, edit), unknown = refusal.number <= 6 && !reason(bytes, refusal.number, refusal.place);
-        const words = editSentence(refusal, edit.place, bytes) + (unknown && this.station.two ? ', under the second player’s settings' : '');
+        let bytes = candidate(this.bytes, edit), words = '';
+        if (this.second && refusal.number <= 6 && !reason(bytes, refusal.number, refusal.place)) {
+            bytes = bytes.slice();
+            bytes.set(this.second, SETTINGS_AT);
+            words = ', for the second player';
+        }
+        words = editSentence(refusal, edit.place, bytes) + words;
         this.tell('refusal', { place: edit.place, kind: edit.kind, whole: Boolean(edit.whole), words });
         return false;
     }
@@ -243,11 +275,13 @@ export class Editor extends EventTarget {
 
     /** Takes the last edit from one list to the other and carries it out as it is turned. */
     turn(from, to, turned) {
-        const edit = from.at(-1);
-        if (!edit || !this.carry(turned(edit))) return;
+        const edit = from.length ? turned(from.at(-1)) : null;
+        if (!edit || !this.carry(edit)) return;
         to.push(from.pop());
         this.selected = edit.place;
-        this.showEdit(turned(edit));
+        if (!edit.names) return this.showEdit(edit);
+        this.name = edit.names[1];
+        this.showChart();
     }
 
     // ---------------------------------------------------------------- dragging: many steps, one edit

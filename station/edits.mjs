@@ -1,16 +1,15 @@
-// Edits as they are carried out, undone and kept: { kind, place, before, after, moved }.
+// Edits as they are carried out, undone and kept: { kind, place, before, after, moved, whole, names }.
 //   replace, insert, remove   before and after are an object's bytes, or null where there is none
-//   chart                     before and after are the bytes of the whole chart, where nested entries, points or settings change with an object
-// moved is the number of objects that come in at the place: 1, 0 or -1.
+//   chart                     before and after are the bytes of the whole chart, where more than one object changes
+// moved is the number of objects that come in at the place: 1, 0 or -1. whole says that any place can have changed; names are those of both charts where another was opened.
 import { objectSize } from '../clients/station.mjs';
-import { FRONT, MOST_ENTRIES, NESTED, SETTINGS_AT, SLIDER, TAIL, behind, header, joined, nestedOf, objectAt, objectBytes, pointsOf, settingsOf, tablesOf, writeNested, writeObject,
-    writePoints } from './chart.mjs';
+import { MOST_ENTRIES, NESTED, POINT, SETTINGS_AT, SLIDER, TAIL, behind, header, joined, nestedOf, objectAt, objectBytes, settingsOf, tablesOf, writeNested, writeObject, writePoints } from './chart.mjs';
 
 const INVERSE = { replace: 'replace', insert: 'remove', remove: 'insert', chart: 'chart' };
 
 /** The edit that undoes an edit. */
-export function inverse({ kind, place, before, after, moved }) {
-    return { kind: INVERSE[kind], place, before: after, after: before, moved: -moved };
+export function inverse({ kind, place, before, after, moved, whole, names }) {
+    return { kind: INVERSE[kind], place, before: after, after: before, moved: -moved, whole, names: names && [names[1], names[0]] };
 }
 
 export function same(a, b) {
@@ -74,7 +73,7 @@ export function insertingSlider(bytes, place, object, reach) {
     const size = objectSize(bytes), tables = tablesOf(bytes);
     const tail = writeNested([{ start: object.end, x: object.x + reach, y: object.y, kind: TAIL }]);
     const points = writePoints([{ x: 0, y: 0, length: 0 }, { x: reach, y: 0, length: Math.abs(reach) }]);
-    const o = { ...object, kind: SLIDER, spans: 1, nestedFirst: tables.nested.length / NESTED, nestedCount: 1, pointsFirst: tables.points.length / 16, pointsCount: 2 };
+    const o = { ...object, kind: SLIDER, spans: 1, nestedFirst: tables.nested.length / NESTED, nestedCount: 1, pointsFirst: tables.points.length / POINT, pointsCount: 2 };
     const at = size * place, objects = behind(tables.objects.subarray(0, at), writeObject(o, size), tables.objects.subarray(at));
     const after = joined(settingsOf(bytes), size, objects, behind(tables.nested, tail), behind(tables.points, points));
     return { kind: 'chart', place, before: bytes.slice(), after, moved: 1 };
@@ -91,6 +90,11 @@ export function setting(bytes, settings) {
     return { kind: 'chart', place: 0, before: bytes.slice(), after, moved: 0, whole: true };
 }
 
+/** Another chart in place of this one. */
+export function opening(bytes, after, names) {
+    return { kind: 'chart', place: 0, before: bytes.slice(), after, moved: 0, whole: true, names };
+}
+
 /** The bytes of a chart as an edit would leave them, to say why it was refused. */
 export function candidate(bytes, { kind, place, after }) {
     if (kind === 'chart') return after;
@@ -98,10 +102,3 @@ export function candidate(bytes, { kind, place, after }) {
     const rest = objects.subarray(kind === 'insert' ? at : at + size);
     return joined(settingsOf(bytes), size, behind(objects.subarray(0, at), after ?? new Uint8Array(0), rest), nested, points);
 }
-
-/** Where a slider's nested entries and points are, for the field: absolute, without the stack offset. */
-export function entriesOf(bytes, o) {
-    return { nested: nestedOf(bytes, o), points: pointsOf(bytes, o) };
-}
-
-export { FRONT };

@@ -1,9 +1,9 @@
 // The proved calls for the station: a chart in the largest buffer that the format allows, so that no edit needs another, and the calls for a second player where the library has them.
-import { Chart, MOST, Refusal } from '../clients/station.mjs';
+import { Chart, MOST, Refusal, STATED_OBJECT, objectSize } from '../clients/station.mjs';
 import { FRONT, MOST_ENTRIES, NESTED, POINT, SETTINGS_SIZE, header } from './chart.mjs';
 
 export { MODS, Refusal } from '../clients/station.mjs';
-const STATED_OBJECT = 64, RECORD = 16, VALUES = 5, AIM = 18, RHYTHM = 2, TOTALS = 4, COUNTS = 7, RATINGS = 4, NUMBER = 8;
+const RECORD = 16, VALUES = 5, AIM = 18, RHYTHM = 2, TOTALS = 4, COUNTS = 7, RATINGS = 4, NUMBER = 8;
 const LARGEST = FRONT + STATED_OBJECT * MOST + (NESTED + POINT) * MOST_ENTRIES;
 const SECOND = ['open_as', 'read_record_as', 'read_values_as', 'read_aim_parts_as', 'read_rhythm_as', 'totals_as', 'counts_as', 'totals_while_playing_as', 'ratings_as',
     'replace_both', 'insert_both', 'remove_both'];
@@ -11,10 +11,9 @@ const SECOND = ['open_as', 'read_record_as', 'read_values_as', 'read_aim_parts_a
 // The chart with as many zeros behind it as the largest has bytes, the number of objects that it has room for, and its own length.
 function roomy(bytes) {
     const objects = bytes.length < FRONT ? 0 : header(bytes).objects, room = MOST - Math.min(objects, MOST);
-    const stated = bytes.length >= FRONT && header(bytes).stated === 1, size = stated ? STATED_OBJECT : 56;
-    const padded = new Uint8Array(Math.max(bytes.length, LARGEST - room * size));
-    padded.set(bytes);
-    return [padded, room, bytes.length];
+    const padded = new Uint8Array(LARGEST - room * objectSize(bytes)), fits = bytes.subarray(0, padded.length);
+    padded.set(fits);
+    return [padded, room, fits.length];
 }
 
 export class Station extends Chart {
@@ -45,17 +44,23 @@ export class Station extends Chart {
         return buffer.subarray(0, header(buffer).length);
     }
 
-    /** Puts another chart of the same object size in its place and opens it; where that is refused, for either player, all stays as it was. */
+    /** Puts another chart in its place and opens it; where that is refused, for either player, all stays as it was. */
     become(bytes) {
         const old = this.chart.slice();
-        this.memory(this.slices.chart).set(bytes);
-        this.#given = bytes.length;
+        this.#put(bytes);
         const refusal = this.open();
         if (!refusal) return null;
-        this.memory(this.slices.chart).set(old);
-        this.#given = old.length;
+        this.#put(old);
         if (this.two) this.open(); // the first player's tables may be the refused chart's
         return refusal;
+    }
+
+    // No chart has more bytes than the buffer: what lies behind that is not looked at.
+    #put(bytes) {
+        const buffer = this.memory(this.slices.chart), fits = bytes.subarray(0, buffer.length);
+        buffer.set(fits);
+        this.#given = fits.length;
+        this.objectSize = objectSize(fits);
     }
 
     /** Opens the chart as it was given, for both players where there are two. */

@@ -73,6 +73,7 @@ class App {
         matchMedia('(prefers-color-scheme: dark)').addEventListener('change', () => this.recolour());
         document.addEventListener('keydown', (e) => this.key(e));
         addEventListener('resize', () => (this.look.colours = colours()));
+        addEventListener('error', (e) => say(`Something went wrong: ${e.message}. The chart is kept.`));
         addEventListener('pagehide', () => this.keepNow());
         document.addEventListener('visibilitychange', () => document.hidden && this.keepNow());
     }
@@ -148,7 +149,7 @@ class App {
     }
 
     refused({ place, words, kind, whole }) {
-        if (whole) return; // said beside the settings
+        if (whole) return document.activeElement.closest('#settings') ? undefined : say(words); // the settings say it themselves
         this.accepted();
         this.saying = setTimeout(() => this.accepted(), STAYS);
         if (this.timeline.pointer?.grabbed) this.timeline.refuse(place, words);

@@ -176,9 +176,11 @@ def refusals(page, checks):
     assert "(10)" in page.text("figures"), page.text("figures")
     page.click("tab-settings")
     page.enter("p0-baseMultiplier", "1.14")
-    page.enter("p0-radius", "36.48")
+    page.enter("p0-radius", "30")
+    assert checks.same("another radius") != before and "OUTSIDE" not in page.text("marks")
+    page.click("undo")
     page.click("tab-figures")
-    assert page.bytes() == before and checks.same("after refusals") == before
+    assert page.bytes() == before and checks.same("after refusals") == before and "OUTSIDE" not in page.text("marks")
     return 8
 
 
@@ -193,6 +195,12 @@ def files(page, checks):
     assert page.run("return station.editor.name") == "again" and checks.same("the text opened again") == data
     page.example("stated")
     checks.same("sliders of stated length")
+    page.control("z")
+    page.control("z")
+    page.control("z")
+    assert page.run("return station.editor.name") == "verse" and checks.same("three openings undone") == data
+    page.control("z", shift=True)
+    assert page.run("return station.editor.name") == "two_circles" and checks.same("an opening redone") != data
     page.drop("dropped.chart", data)
     assert page.run("return station.editor.name") == "dropped" and checks.same("the bytes dropped") == data
     for name, wrong, words in (("junk.chart", b"not a chart", "1: the chart has 11 bytes, its header alone takes 80"), ("cut.chart", data[:-1], "its header says"),

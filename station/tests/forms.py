@@ -55,8 +55,41 @@ def of_text(text):
         return b"\1" + str(e).encode()
 
 
+# What is said beside a note, by number, place, place of the edit, and what is changed in a text of three circles.
+BESIDE = (
+    (1, 0, 0, "header nested 70000", "the header counts 70,000 nested entries, allowed are 0 to 65,536 (1)"),
+    (2, 0, 0, "radius 500", "the radius is 500, allowed are 1 to 200 (2)"),
+    (3, 1, 1, "circle at 2000 x 1e6 y 0", "the circle's x is 1000000, allowed are -131,072 to 131,072 (3 at place 1)"),
+    (4, 1, 1, "slider at 2000 to 2500 x 0 y 0 nested 0 1 points 0 1", "the slider's nested entries are 1 from number 0 on, the table has 0 (4 at place 1)"),
+    (5, 1, 1, "circle at 500 x 0 y 0", "starts before the note before it, which starts at 1000 ms (5 at place 1)"),
+    (5, 2, 1, "circle at 9000 x 0 y 0", "starts after the note behind it, which starts at 3000 ms (5 at place 2)"),
+    (6, 0, 2, "circle at 4000000 x 0 y 0", "from place 1 to the last the starts over the clock rate span 3998000, at most 3,000,000 are allowed (6)"),
+    (7, 0, 0, "", "a table of the station is too short for this chart (7)"),
+    (8, 0, 0, "", "there is no such place (8)"),
+    (9, 0, 0, "", "there is no room for another object: a chart has 16,384 at most (9)"),
+    (10, 0, 0, "", "a number for the ratings is not finite (10)"),
+)
+LINES = {"clock-rate": "clock-rate 1", "radius": "radius 40", "hit-window": "hit-window 50", "preempt": "preempt 600", "fade-in": "fade-in 400", "factor": "factor 1.25"}
+
+
+def beside():
+    """Cases for all ten numbers."""
+    for number, place, at, line, want in BESIDE:
+        circles = [f"circle at {t} x 100 y 100" for t in (1000, 2000, 3000)]
+        lines = {**LINES, "header": ""}
+        if line.split(" ")[0] in lines:
+            lines[line.split(" ")[0]] = line
+        elif line:
+            circles[at] = line
+        b = chart.to_bytes("\n".join([*lines.values(), *circles]))
+        found = chart.explain(b)
+        assert number > 6 or found[:2] == (number, place), found
+        yield b"s" + struct.pack("<III", number, place, at) + b, want.encode()
+
+
 def cases():
     """Pairs of a case and what is to be answered to it."""
+    yield from beside()
     r, texts = random.Random(1), list(examples())
     charts = [chart.to_bytes(text) for text in texts] + list(stored("test_opening")) + list(stored("test_listings"))
     for b in charts:
@@ -85,8 +118,8 @@ def run():
         at += 4 + size
         errors += want[:1] == b"\1" and case[:1] == b"t"
     assert at == len(done.stdout)
-    kinds = [sum(case[:1] == kind for case, _ in pairs) for kind in (b"b", b"t", b"e")]
-    return f"text form: {kinds[0]} charts as text, {kinds[1]} texts ({errors} of them wrong) and {kinds[2]} refusals in words, as tools/chart.py has them"
+    kinds = [sum(case[:1] == kind for case, _ in pairs) for kind in (b"b", b"t", b"e", b"s")]
+    return f"text form: {kinds[0]} charts as text, {kinds[1]} texts ({errors} of them wrong) and {kinds[2]} refusals in words, as tools/chart.py has them; {kinds[3]} sentences beside a note, for all ten numbers"
 
 
 if __name__ == "__main__":
