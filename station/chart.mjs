@@ -25,7 +25,8 @@ export function viewOf(bytes) {
 
 /** The first eight words: counts of objects, nested entries and points, their offsets, the length, and whether objects have a stated length. */
 export function header(bytes) {
-    const v = viewOf(bytes), [objects, nested, points, objectsAt, nestedAt, pointsAt, length, stated] = Array.from({ length: 8 }, (_, i) => v.getUint32(4 * i, true));
+    const v = viewOf(bytes), words = Array.from({ length: 8 }, (_, i) => v.getUint32(4 * i, true));
+    const [objects, nested, points, objectsAt, nestedAt, pointsAt, length, stated] = words;
     return { objects, nested, points, objectsAt, nestedAt, pointsAt, length, stated };
 }
 
@@ -51,8 +52,9 @@ export function settingsOf(bytes) {
 export function readObject(bytes) {
     const v = viewOf(bytes), word = (at) => v.getUint32(at, true), single = (at) => v.getFloat32(at, true);
     return {
-        start: v.getFloat64(0, true), end: v.getFloat64(8, true), x: single(16), y: single(20), stackX: single(24), stackY: single(28), kind: word(32), spans: word(36),
-        nestedFirst: word(40), nestedCount: word(44), pointsFirst: word(48), pointsCount: word(52), length: bytes.length === STATED_OBJECT ? v.getFloat64(56, true) : 0,
+        start: v.getFloat64(0, true), end: v.getFloat64(8, true), x: single(16), y: single(20), stackX: single(24), stackY: single(28),
+        kind: word(32), spans: word(36), nestedFirst: word(40), nestedCount: word(44), pointsFirst: word(48), pointsCount: word(52),
+        length: bytes.length === STATED_OBJECT ? v.getFloat64(56, true) : 0,
     };
 }
 
@@ -84,8 +86,8 @@ export function plainObject(fields) {
 export function nestedOf(bytes, o) {
     const { nested, nestedAt } = header(bytes), v = viewOf(bytes), found = [];
     for (let i = o.nestedFirst; i < Math.min(o.nestedFirst + o.nestedCount, nested); i++) {
-        const at = nestedAt + NESTED * i;
-        found.push({ start: v.getFloat64(at, true), x: v.getFloat32(at + 8, true), y: v.getFloat32(at + 12, true), kind: v.getUint32(at + 16, true), reserved: v.getUint32(at + 20, true) });
+        const at = nestedAt + NESTED * i, word = (k) => v.getUint32(at + k, true);
+        found.push({ start: v.getFloat64(at, true), x: v.getFloat32(at + 8, true), y: v.getFloat32(at + 12, true), kind: word(16), reserved: word(20) });
     }
     return found;
 }
@@ -126,8 +128,8 @@ export function writePoints(points) {
 export function joined(settings, size, objects, nested, points) {
     const bytes = new Uint8Array(FRONT + objects.length + nested.length + points.length), v = viewOf(bytes);
     const nestedAt = FRONT + objects.length, pointsAt = nestedAt + nested.length;
-    [objects.length / size, nested.length / NESTED, points.length / POINT, FRONT, nestedAt, pointsAt, bytes.length, Number(size === STATED_OBJECT)].forEach((word, i) =>
-        v.setUint32(4 * i, word, true));
+    const counts = [objects.length / size, nested.length / NESTED, points.length / POINT], offsets = [FRONT, nestedAt, pointsAt, bytes.length];
+    [...counts, ...offsets, Number(size === STATED_OBJECT)].forEach((word, i) => v.setUint32(4 * i, word, true));
     bytes.set(settings, SETTINGS_AT);
     bytes.set(objects, FRONT);
     bytes.set(nested, nestedAt);

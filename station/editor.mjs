@@ -8,7 +8,8 @@ import { editSentence, openingSentence, reason } from './words.mjs';
 export const VALUES = ['aim', 'aim without sliders', 'speed', 'rhythm', 'flashlight'];
 export const TOTALS = ['aim', 'aim without sliders', 'speed', 'flashlight'];
 export const FRAME = 16; // milliseconds that a step of a drag may take
-const DEEPEST = 300, REST = 700, PAUSE = 120; // edits that are kept; milliseconds after which steps by key are an edit, and after which a drag rests
+const DEEPEST = 300; // edits that are kept
+const REST = 700, PAUSE = 120; // milliseconds after which steps by key are an edit, and after which a drag rests
 const BACK = 1, AHEAD = 33, REMOVED = 32; // an edit at k changes no value before k-1 and none behind k+33, a removal none behind k+32
 
 export class Editor extends EventTarget {
@@ -50,9 +51,10 @@ export class Editor extends EventTarget {
     /** Opens another chart, which can be undone; a sentence where it is refused, and the one before stays. Lines are those of the objects in its text. */
     async open(bytes, name, lines = []) {
         this.settle();
-        const refusal = this.station ? this.become(bytes, name) : await this.begin(bytes, name);
+        const had = this.second, refusal = this.station ? this.become(bytes, name) : await this.begin(bytes, name);
         if (refusal) return openingSentence(refusal, bytes, lines);
         this.showChart();
+        if (had && !this.second) this.tell('said', { words: 'The second player is left out: this chart is not opened under those settings.' });
         return null;
     }
 
@@ -95,13 +97,15 @@ export class Editor extends EventTarget {
 
     /** All objects and values. */
     readPlaces() {
-        const length = this.station.objects, bytes = this.bytes, rows = (player) => Array.from({ length }, (_, k) => (k ? this.station.values(player, k) : null));
+        const length = this.station.objects, bytes = this.bytes, { players } = this;
+        const rows = (player) => Array.from({ length }, (_, k) => (k ? this.station.values(player, k) : null));
         this.objects = Array.from({ length }, (_, k) => objectAt(bytes, k));
-        this.values = [0, 1].map((player) => (this.players.includes(player) ? rows(player) : []));
+        this.values = [0, 1].map((player) => (players.includes(player) ? rows(player) : []));
         this.paths = new Map();
     }
 
-    /** The totals while playing of each player, whose last entry is the totals; ratings and counts. What would come later than a time stays as it was, but for the totals. */
+    /** The totals while playing of each player, whose last entry is the totals; ratings and counts. What would come later than a time stays as it was,
+     * but for the totals. */
     readFigures(until = Infinity) {
         const began = performance.now(), slow = until < Infinity && this.cost > FRAME / 2;
         this.late = slow;
@@ -110,8 +114,8 @@ export class Editor extends EventTarget {
             if (!this.players.includes(player)) return null;
             const old = this.figures[player], { mods, numbers } = this.asked[player], playing = slow && old ? old.playing : this.station.playing(player);
             const totals = playing === old?.playing ? this.station.totalsOf(player) : playing.slice(-TOTALS.length);
-            const ratings = unless(old?.ratings, () => this.station.ratingsOf(player, mods, numbers)), counts = unless(old?.counts, () => this.station.countsOf(player));
-            return { playing, totals, ratings, counts };
+            const ratings = unless(old?.ratings, () => this.station.ratingsOf(player, mods, numbers));
+            return { playing, totals, ratings, counts: unless(old?.counts, () => this.station.countsOf(player)) };
         });
         if (until === Infinity) this.cost = (performance.now() - began) / 3; // about what the list of totals takes
     }
@@ -212,9 +216,11 @@ export class Editor extends EventTarget {
         }
     }
 
-    /** What an edit changed, by bits: for each place the rows before, and the places that the theorem allows. Where the chart was opened anew all places are compared, else those read again. */
+    /** What an edit changed, by bits: for each place the rows before, and the places that the theorem allows. Where the chart was opened anew all places are
+     * compared, else those that were read again. */
     marked({ kind, place, moved, whole }, base) {
-        const last = this.objects.length - 1, all = kind === 'chart', from = whole ? 1 : Math.max(place - BACK, 1), to = whole ? last : Math.min(place + (moved < 0 ? REMOVED : AHEAD), last);
+        const last = this.objects.length - 1, all = kind === 'chart', from = whole ? 1 : Math.max(place - BACK, 1);
+        const to = whole ? last : Math.min(place + (moved < 0 ? REMOVED : AHEAD), last);
         const was = (k) => (moved > 0 ? (k < place ? k : k === place ? -1 : k - 1) : moved < 0 && k >= place ? k + 1 : k);
         const marks = { place, moved, whole: Boolean(whole), from, to, rows: new Map(), changed: 0, outside: 0, lowest: Infinity, highest: -1 };
         for (let k = all ? 1 : from; k <= (all ? last : to); k++) {
@@ -278,7 +284,7 @@ export class Editor extends EventTarget {
         const edit = from.length ? turned(from.at(-1)) : null;
         if (!edit || !this.carry(edit)) return;
         to.push(from.pop());
-        this.selected = edit.place;
+        if (!edit.whole) this.selected = edit.place;
         if (!edit.names) return this.showEdit(edit);
         this.name = edit.names[1];
         this.showChart();

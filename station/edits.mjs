@@ -1,9 +1,11 @@
 // Edits as they are carried out, undone and kept: { kind, place, before, after, moved, whole, names }.
 //   replace, insert, remove   before and after are an object's bytes, or null where there is none
 //   chart                     before and after are the bytes of the whole chart, where more than one object changes
-// moved is the number of objects that come in at the place: 1, 0 or -1. whole says that any place can have changed; names are those of both charts where another was opened.
+// moved is the number of objects that come in at the place: 1, 0 or -1; whole says that any place can have changed; names are those of both charts
+// where another was opened.
 import { objectSize } from '../clients/station.mjs';
-import { MOST_ENTRIES, NESTED, POINT, SETTINGS_AT, SLIDER, TAIL, behind, header, joined, nestedOf, objectAt, objectBytes, settingsOf, tablesOf, writeNested, writeObject, writePoints } from './chart.mjs';
+import { MOST_ENTRIES, NESTED, POINT, SETTINGS_AT, SLIDER, TAIL, behind, header, joined, nestedOf, objectAt, objectBytes, settingsOf, tablesOf, writeNested,
+    writeObject, writePoints } from './chart.mjs';
 
 const INVERSE = { replace: 'replace', insert: 'remove', remove: 'insert', chart: 'chart' };
 
@@ -23,13 +25,14 @@ export function isIdle({ before, after }) {
 // Whether another slider uses one of these nested entries.
 function shared(bytes, place, { nestedFirst, nestedCount }) {
     for (let k = 0; k < header(bytes).objects; k++) {
-        const o = objectAt(bytes, k);
-        if (k !== place && o.kind === SLIDER && o.nestedFirst < nestedFirst + nestedCount && nestedFirst < o.nestedFirst + o.nestedCount) return true;
+        const o = objectAt(bytes, k), meets = o.nestedFirst < nestedFirst + nestedCount && nestedFirst < o.nestedFirst + o.nestedCount;
+        if (k !== place && o.kind === SLIDER && meets) return true;
     }
     return false;
 }
 
-/** A chart in which the slider at a place has other fields, and its nested entries go with it in place and in time. Entries that another slider uses are left to it and copied. */
+/** A chart in which the slider at a place has other fields, and its nested entries go with it in place and in time; those that another slider uses are
+ * left to it and copied. */
 function sliderMoved(bytes, place, old, next) {
     const tables = tablesOf(bytes), entries = nestedOf(bytes, old), own = !shared(bytes, place, old), o = { ...next };
     const dx = next.x - old.x, dy = next.y - old.y, was = old.end - old.start, is = next.end - next.start;
@@ -47,8 +50,8 @@ function sliderMoved(bytes, place, old, next) {
 /** The object at a place of a chart gets other fields: one replacement, or, for a slider whose nested entries go with it, the chart as it becomes. */
 export function changing(bytes, place, fields) {
     const old = objectAt(bytes, place), next = { ...old, ...fields };
-    const goes = ['x', 'y', 'start', 'end'].some((name) => old[name] !== next[name]);
-    if (old.kind === SLIDER && next.kind === SLIDER && goes) return { kind: 'chart', place, before: bytes.slice(), after: sliderMoved(bytes, place, old, next), moved: 0 };
+    const goes = ['x', 'y', 'start', 'end'].some((name) => name in fields); // where it is back at its beginning too: a drag may have been elsewhere
+    if (old.kind === SLIDER && goes) return { kind: 'chart', place, before: bytes.slice(), after: sliderMoved(bytes, place, old, next), moved: 0 };
     return { kind: 'replace', place, before: objectBytes(bytes, place).slice(), after: writeObject(next, objectSize(bytes)), moved: 0 };
 }
 
@@ -73,7 +76,8 @@ export function insertingSlider(bytes, place, object, reach) {
     const size = objectSize(bytes), tables = tablesOf(bytes);
     const tail = writeNested([{ start: object.end, x: object.x + reach, y: object.y, kind: TAIL }]);
     const points = writePoints([{ x: 0, y: 0, length: 0 }, { x: reach, y: 0, length: Math.abs(reach) }]);
-    const o = { ...object, kind: SLIDER, spans: 1, nestedFirst: tables.nested.length / NESTED, nestedCount: 1, pointsFirst: tables.points.length / POINT, pointsCount: 2 };
+    const first = { nestedFirst: tables.nested.length / NESTED, pointsFirst: tables.points.length / POINT };
+    const o = { ...object, ...first, kind: SLIDER, spans: 1, nestedCount: 1, pointsCount: 2 };
     const at = size * place, objects = behind(tables.objects.subarray(0, at), writeObject(o, size), tables.objects.subarray(at));
     const after = joined(settingsOf(bytes), size, objects, behind(tables.nested, tail), behind(tables.points, points));
     return { kind: 'chart', place, before: bytes.slice(), after, moved: 1 };

@@ -60,8 +60,8 @@ export class Files {
     }
 
     async takeBytes(bytes, name, file) {
-        const refused = await this.editor.open(bytes, name);
-        if (refused) this.say(`${file} is not opened. ${refused}. The chart stays as it was.`, { words: 'See it as text', act: () => this.show(toText(bytes), refused) });
+        const refused = await this.editor.open(bytes, name), look = { words: 'See it as text', act: () => this.show(toText(bytes), refused) };
+        if (refused) this.say(`${file} is not opened. ${refused}. The chart stays as it was.`, look);
     }
 
     /** Opens a text; where it is wrong it is shown with its fault, and the chart stays. */

@@ -1,4 +1,4 @@
-// Graphs over time: a strip for aim, speed, rhythm and flashlight each, and one for the totals while playing. An edit draws again only what it can have changed.
+// Graphs over time: a strip for aim, speed, rhythm and flashlight each, and one for the totals while playing. A drag draws again only what it can have changed.
 import { drawWindow, wheelSpan } from './timeline.mjs';
 import { Surface, element, niceStep, shown } from './view.mjs';
 
@@ -25,13 +25,14 @@ class Strip {
     }
 
     makeHead() {
-        if (!this.totals) return element('div', { class: 'head' }, element('span', { class: `name ${this.title}` }, this.title), this.output(this.lines.at(-1)[0], this.title));
-        const rows = LEGEND.map(([index, colour, name]) => element('span', { class: 'row' }, element('span', { class: `name ${colour}` }, name), this.output(index, `total so far, ${name}`)));
-        return element('div', { class: 'head', title: 'Totals while playing: what is reached once the selected note was played' }, ...rows);
+        const name = (colour, words) => element('span', { class: `name ${colour}` }, words);
+        if (!this.totals) return element('div', { class: 'head' }, name(this.title, this.title), this.output(this.lines.at(-1)[0], this.title));
+        const row = ([index, colour, words]) => element('span', { class: 'row' }, name(colour, words), this.output(index, `total so far, ${words}`));
+        return element('div', { class: 'head', title: 'Totals while playing: what is reached once the selected note was played' }, ...LEGEND.map(row));
     }
 
     output(index, label) {
-        const made = element('output', { 'aria-label': label });
+        const made = element('output', { 'aria-label': label, 'aria-live': 'off' });
         this.outputs.set(index, made);
         return made;
     }
@@ -65,7 +66,12 @@ class Strip {
     scale([first, last]) {
         let most = 0;
         for (const player of this.graphs.editor.players) {
-            for (const [index] of this.lines) for (let k = first; k <= last; k++) most = Math.max(most, Number.isFinite(this.at(player, index, k)) ? this.at(player, index, k) : 0);
+            for (const [index] of this.lines) {
+                for (let k = first; k <= last; k++) {
+                    const x = this.at(player, index, k);
+                    if (x > most && x < Infinity) most = x;
+                }
+            }
         }
         const held = this.graphs.editor.drag && most * 1.02 <= this.top && most >= this.top * 0.3;
         if (held) return false;
@@ -82,7 +88,8 @@ class Strip {
     draw(part = null) {
         const { editor, span, look } = this.graphs, { surface } = this, c = surface.context;
         if (!editor.station || !surface.width) return;
-        const range = this.range(), scaled = this.scale(range), where = editor.marks && `${editor.marks.place} ${editor.marks.whole} ${span.from} ${span.to} ${editor.selected}`;
+        const { marks, selected } = editor, range = this.range(), scaled = this.scale(range);
+        const where = marks && [marks.place, marks.whole, span.from, span.to, selected].join(' ');
         const some = part && !scaled && this.drawn === where ? part : null;
         this.drawn = where;
         c.save();
@@ -175,7 +182,8 @@ class Strip {
     }
 
     drawSelected(c) {
-        const { editor, span, look } = this.graphs, { width, height } = this.surface, x = Math.round(span.x(editor.objects[editor.selected].start, width)) + 0.5;
+        const { editor, span, look } = this.graphs, { width, height } = this.surface, { start } = editor.objects[editor.selected];
+        const x = Math.round(span.x(start, width)) + 0.5;
         c.strokeStyle = look.colours.select;
         c.lineWidth = 1;
         c.beginPath();

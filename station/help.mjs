@@ -28,10 +28,13 @@ const KEYS = {
 };
 
 const WORDS = [
-    'Drag a note on the playfield to move it, on the timeline to move it in time. Double-click free ground to put a circle in. The wheel goes through time on the playfield and zooms the timeline and the graphs.',
-    'Every edit is a call of a library that is proved to answer as its definitions say, on every input. What an edit changed is marked: the band is where the theorem allows changes, one place before the note to 33 behind it; '
+    'Drag a note on the playfield to move it, on the timeline to move it in time. Double-click free ground to put a circle in. '
+        + 'The wheel goes through time on the playfield and zooms the timeline and the graphs.',
+    'Every edit is a call of a library that is proved to answer as its definitions say, on every input. What an edit changed is marked: '
+        + 'the band is where the theorem allows changes, one place before the note to 33 behind it; '
         + 'dots in the band are values that have other bits now, the thin line is what they were.',
-    'What is refused stays as it was, and a sentence beside the note says why, with the refusal’s number and place. A chart, text or bytes, can be dropped on the page. Everything stays in this browser: nothing is sent anywhere, and a reload loses nothing.',
+    'What is refused stays as it was, and a sentence beside the note says why, with the refusal’s number and place. '
+        + 'A chart, text or bytes, can be dropped on the page. Everything stays in this browser: nothing is sent anywhere, and a reload loses nothing.',
 ];
 
 export function makeHelp(parent) {

@@ -1,12 +1,13 @@
-// The proved calls for the station: a chart in the largest buffer that the format allows, so that no edit needs another, and the calls for a second player where the library has them.
+// The proved calls for the station: a chart in the largest buffer that the format allows, so that no edit needs another, and the calls for a second player
+// where the library has them.
 import { Chart, MOST, Refusal, STATED_OBJECT, objectSize } from '../clients/station.mjs';
 import { FRONT, MOST_ENTRIES, NESTED, POINT, SETTINGS_SIZE, header } from './chart.mjs';
 
 export { MODS, Refusal } from '../clients/station.mjs';
 const RECORD = 16, VALUES = 5, AIM = 18, RHYTHM = 2, TOTALS = 4, COUNTS = 7, RATINGS = 4, NUMBER = 8;
 const LARGEST = FRONT + STATED_OBJECT * MOST + (NESTED + POINT) * MOST_ENTRIES;
-const SECOND = ['open_as', 'read_record_as', 'read_values_as', 'read_aim_parts_as', 'read_rhythm_as', 'totals_as', 'counts_as', 'totals_while_playing_as', 'ratings_as',
-    'replace_both', 'insert_both', 'remove_both'];
+const SECOND = ['open_as', 'read_record_as', 'read_values_as', 'read_aim_parts_as', 'read_rhythm_as', 'totals_as', 'totals_while_playing_as', 'counts_as',
+    'ratings_as', 'replace_both', 'insert_both', 'remove_both'];
 
 // The chart with as many zeros behind it as the largest has bytes, the number of objects that it has room for, and its own length.
 function roomy(bytes) {

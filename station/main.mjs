@@ -1,6 +1,6 @@
 // The station: its parts put together, keys and buttons, and what is kept for the next visit.
 import { CIRCLE, SLIDER, SPINNER, KINDS, readSettings } from './chart.mjs';
-import { Editor, FRAME } from './editor.mjs';
+import { Editor, FRAME, VALUES } from './editor.mjs';
 import { Files } from './files.mjs';
 import { Graphs } from './graphs.mjs';
 import { makeHelp } from './help.mjs';
@@ -64,7 +64,7 @@ class App {
         on('edit', (edit) => this.edited(edit));
         on('selection', () => this.selection());
         on('time', () => this.timeShown());
-        on('figures', () => (this.panel.showFigures(), this.keep()));
+        on('figures', () => (this.panel.showFigures(), this.graphs.draw(), this.keep()));
         on('refusal', (refusal) => this.refused(refusal));
         on('accepted', () => this.accepted());
         on('step', ({ time }) => this.meter(time));
@@ -127,7 +127,7 @@ class App {
     selection() {
         const { editor } = this, k = editor.selected, o = editor.objects[k];
         if (o) {
-            const row = editor.values[0][k], values = row ? `; aim ${shown(row[0], 'short')}, speed ${shown(row[2], 'short')}, rhythm ${shown(row[3], 'short')}, flashlight ${shown(row[4], 'short')}` : '';
+            const row = editor.values[0][k], values = row ? VALUES.map((name, i) => `, ${name} ${shown(row[i], 'short')}`).join('') : '';
             id('told').textContent = `Place ${k}, ${KINDS[o.kind]} at ${clock(o.start)}, x ${Math.round(o.x)}, y ${Math.round(o.y)}${values}`;
             this.span.follow(o.start);
         }
@@ -199,6 +199,12 @@ class App {
         document.body.dataset.digits = mode;
     }
 
+    nextMode() {
+        this.setMode(MODES[(MODES.indexOf(this.look.mode) + 1) % MODES.length]);
+        this.drawAll();
+        this.keep();
+    }
+
     // ---------------------------------------------------------------- playing
 
     playing(on = !this.plays) {
@@ -261,20 +267,22 @@ class App {
     action(key, shift) {
         const { editor, span } = this, by = shift ? 1 : 10;
         return {
-            ArrowLeft: () => editor.nudge(-by, 0, 0), ArrowRight: () => editor.nudge(by, 0, 0), ArrowUp: () => editor.nudge(0, -by, 0), ArrowDown: () => editor.nudge(0, by, 0),
-            '[': () => editor.nudge(0, 0, -10), ']': () => editor.nudge(0, 0, 10), '{': () => editor.nudge(0, 0, -1), '}': () => editor.nudge(0, 0, 1),
-            ',': () => editor.goTo(editor.selected - 1), '.': () => editor.goTo(editor.selected + 1), Home: () => editor.goTo(0), End: () => editor.goTo(editor.objects.length - 1),
-            Delete: () => editor.remove(editor.selected), Backspace: () => editor.remove(editor.selected), n: () => this.insert(Number(id('kind').value)),
-            c: () => this.insert(CIRCLE), s: () => this.insert(SLIDER), p: () => this.insert(SPINNER), t: () => this.files.edit(), ' ': () => this.playing(),
-            PageUp: () => editor.seek(editor.time - 1000), PageDown: () => editor.seek(editor.time + 1000), '+': () => span.zoom(0.5, editor.time), '=': () => span.zoom(0.5, editor.time),
-            '-': () => span.zoom(2, editor.time), 0: () => span.all(), '?': () => id('help-dialog').showModal(), Escape: () => editor.drag && editor.release(),
-            b: () => (this.setMode(MODES[(MODES.indexOf(this.look.mode) + 1) % MODES.length]), this.drawAll(), this.keep()),
+            ArrowLeft: () => editor.nudge(-by, 0, 0), ArrowRight: () => editor.nudge(by, 0, 0), ArrowUp: () => editor.nudge(0, -by, 0),
+            ArrowDown: () => editor.nudge(0, by, 0), '[': () => editor.nudge(0, 0, -10), ']': () => editor.nudge(0, 0, 10), '{': () => editor.nudge(0, 0, -1),
+            '}': () => editor.nudge(0, 0, 1), ',': () => editor.goTo(editor.selected - 1), '.': () => editor.goTo(editor.selected + 1),
+            Home: () => editor.goTo(0), End: () => editor.goTo(editor.objects.length - 1), Delete: () => editor.remove(editor.selected),
+            Backspace: () => editor.remove(editor.selected), n: () => this.insert(Number(id('kind').value)), c: () => this.insert(CIRCLE),
+            s: () => this.insert(SLIDER), p: () => this.insert(SPINNER), t: () => this.files.edit(), b: () => this.nextMode(), ' ': () => this.playing(),
+            PageUp: () => editor.seek(editor.time - 1000), PageDown: () => editor.seek(editor.time + 1000), '+': () => span.zoom(0.5, editor.time),
+            '=': () => span.zoom(0.5, editor.time), '-': () => span.zoom(2, editor.time), 0: () => span.all(), '?': () => id('help-dialog').showModal(),
+            Escape: () => editor.drag && editor.release(),
         }[key.length === 1 && !'{}?+'.includes(key) ? key.toLowerCase() : key];
     }
 
     controlled(key, shift) {
         const { editor } = this;
-        return { z: () => (shift ? editor.redo() : editor.undo()), y: () => editor.redo(), o: () => id('open').click(), s: () => this.files.save() }[key.toLowerCase()];
+        const keys = { z: () => (shift ? editor.redo() : editor.undo()), y: () => editor.redo(), o: () => id('open').click(), s: () => this.files.save() };
+        return keys[key.toLowerCase()];
     }
 
     key(event) {

@@ -6,15 +6,17 @@ import { clock, element, shown, single } from './view.mjs';
 
 const NAMES = ['aim', 'aim, no sliders', 'speed', 'rhythm', 'flashlight', 'comparisons'];
 const PARTS = ['value', 'velocity', 'velocity before', 'wide bonus', 'acute bonus', 'wiggle bonus', 'velocity change', 'slider bonus'];
-const RULES = ['there are fewer than two records before, and all parts are 0', 'a spinner is here or before, and all parts are 0', 'the acute side answers', 'the wide side answers'];
-const RECORD = ['start time', 'delta time', 'adjusted delta', 'lazy jump distance', 'min. jump distance', 'min. jump time', 'travel distance', 'travel time', 'lazy end x', 'lazy end y',
-    'lazy travel dist.', 'lazy travel time', 'angle', 'small circle bonus', 'has lazy end', 'has angle'];
+const RULES = ['there are fewer than two records before, and all parts are 0', 'a spinner is here or before, and all parts are 0', 'the acute side answers',
+    'the wide side answers'];
+const RECORD = ['start time', 'delta time', 'adjusted delta', 'lazy jump distance', 'min. jump distance', 'min. jump time', 'travel distance', 'travel time',
+    'lazy end x', 'lazy end y', 'lazy travel dist.', 'lazy travel time', 'angle', 'small circle bonus', 'has lazy end', 'has angle'];
 const SUMS = ['aim', 'aim, no sliders', 'speed', 'flashlight'];
-const COUNTS = [['strains, aim', 'weighted strains for aim'], ['strains, no sliders', 'weighted strains for aim without sliders'], ['strains, speed', 'weighted strains for speed'],
-    ['sliders, aim', 'weighted sliders for aim without sliders'], ['sliders, speed', 'weighted sliders for speed'], ['difficult sliders', 'difficult sliders for aim'],
-    ['relevant notes', 'relevant notes for speed']];
+const COUNTS = [['strains, aim', 'weighted strains for aim'], ['strains, no sliders', 'weighted strains for aim without sliders'],
+    ['strains, speed', 'weighted strains for speed'], ['sliders, aim', 'weighted sliders for aim without sliders'],
+    ['sliders, speed', 'weighted sliders for speed'], ['difficult sliders', 'difficult sliders for aim'], ['relevant notes', 'relevant notes for speed']];
+const IDS = ['place-title', 'fields', 'values', 'marks', 'parts', 'rule', 'record', 'figures', 'whose'];
 const RATINGS = ['aim rating', 'speed rating', 'flashlight rating', 'stars'];
-const FIELDS = [['start', 'start', 'ms'], ['x', 'x', ''], ['y', 'y', ''], ['end', 'end', 'ms'], ['stackX', 'stack x', ''], ['stackY', 'stack y', ''], ['spans', 'spans', ''], ['length', 'length', 'px']];
+const FIELDS = { start: 'start, ms', x: 'x', y: 'y', end: 'end, ms', stackX: 'stack x', stackY: 'stack y', spans: 'spans', length: 'length, px' };
 
 const SINGLE = ['x', 'y', 'stackX', 'stackY']; // of 32 bits
 
@@ -42,16 +44,19 @@ class Grid {
         const cell = this.cells[row][column];
         if (cell.textContent !== text) cell.textContent = text;
         if (cell.className !== kind) cell.className = kind;
-        cell.removeAttribute('title');
     }
 }
 
-/** A number in a cell, and all its digits and its bits where the pointer rests on it. */
+/** A number in a cell, where it is not there already. */
 function write(cell, x, mode) {
-    if (cell.number !== undefined && Object.is(cell.number, x) && cell.mode === mode) return;
+    if (cell.mode === mode && Object.is(cell.number, x)) return;
     Object.assign(cell, { number: x, mode });
     cell.textContent = x === undefined ? '–' : shown(x, mode);
-    cell.title = x === undefined ? '' : `${shown(x, 'all')} · ${shown(x, 'bits')}`;
+}
+
+/** All digits of a number and its bits, where the pointer comes upon its cell. */
+function tellBits({ target }) {
+    if (target.number !== undefined) target.title = `${shown(target.number, 'all')} · ${shown(target.number, 'bits')}`;
 }
 
 function signed(x) {
@@ -63,13 +68,14 @@ export class Panel {
 
     constructor(editor, look) {
         Object.assign(this, { editor, look, made: 0 });
-        this.ids = Object.fromEntries(['place-title', 'fields', 'values', 'marks', 'parts', 'rule', 'record', 'figures', 'whose'].map((id) => [id, document.getElementById(id)]));
+        this.ids = Object.fromEntries(IDS.map((id) => [id, document.getElementById(id)]));
         this.makeFields();
         this.record = RECORD.map((name) => {
             const cell = element('dd');
             this.ids.record.append(element('div', {}, element('dt', {}, name), cell));
             return cell;
         });
+        document.querySelector('.panels').addEventListener('pointerover', tellBits);
         this.parts = new Grid(this.ids.parts, PARTS, ['with sliders', 'without'], 'aim’s parts');
         this.makeWhose();
     }
@@ -86,7 +92,7 @@ export class Panel {
         const heads = two ? ['player 1', 'player 2'] : ['value'];
         this.values = new Grid(this.ids.values, NAMES, [...heads, 'change'], 'values');
         this.values.table.tBodies[0].lastChild.title = 'How often an island was compared with a kept one for the rhythm value: 406 times at most';
-        const totals = element('table', { class: 'numbers', id: 'totals' }), counts = element('table', { class: 'numbers', id: 'counts' }), ratings = element('table', { class: 'numbers', id: 'ratings' });
+        const [totals, ratings, counts] = ['totals', 'ratings', 'counts'].map((id) => element('table', { class: 'numbers', id }));
         this.fault = element('p', { class: 'line fault', role: 'status' });
         this.ids.figures.replaceChildren(totals, ratings, this.fault, counts);
         const columns = two ? ['player 1', 'player 2'] : [''];
@@ -109,10 +115,10 @@ export class Panel {
 
     makeFields() {
         this.inputs = new Map();
-        for (const [key, name, unit] of FIELDS) {
+        for (const [key, name] of Object.entries(FIELDS)) {
             const input = element('input', { type: 'number', step: 'any', id: `field-${key}`, onchange: () => this.enter(key, input) });
             this.inputs.set(key, input);
-            this.ids.fields.append(element('label', { for: `field-${key}`, 'data-field': key }, element('span', {}, unit ? `${name}, ${unit}` : name), input));
+            this.ids.fields.append(element('label', { for: `field-${key}` }, element('span', {}, name), input));
         }
         this.ids.fields.addEventListener('submit', (e) => e.preventDefault());
     }
@@ -128,8 +134,9 @@ export class Panel {
 
     showFields(force = false) {
         const o = this.editor.objects[this.editor.selected], stated = this.editor.station?.objectSize === 64;
+        const slider = o?.kind === SLIDER, has = { end: slider || o?.kind === SPINNER, spans: slider, length: slider && stated };
         for (const [key, input] of this.inputs) {
-            const slider = o?.kind === SLIDER, hidden = !o || (key === 'end' && o.kind < SLIDER) || (key === 'spans' && !slider) || (key === 'length' && !(slider && stated));
+            const hidden = !o || has[key] === false;
             if (input.disabled !== hidden) input.disabled = input.parentElement.hidden = hidden;
             const words = o ? String(SINGLE.includes(key) ? single(o[key]) : o[key]) : '';
             if (o && (force || document.activeElement !== input) && input.value !== words) input.value = words;
@@ -158,8 +165,9 @@ export class Panel {
     showChange(k) {
         const { marks, players, values } = this.editor, before = marks?.rows.get(k), last = players.length;
         VALUES.forEach((_, i) => {
-            const changes = players.map((player) => (before?.[player] && !Object.is(before[player][i], values[player][k][i]) ? signed(values[player][k][i] - before[player][i]) : ''));
-            const words = before && !before[0] ? 'new' : changes.filter(Boolean).join(' · ');
+            const pairs = players.map((player) => [before?.[player]?.[i], values[player][k]?.[i]]);
+            const moved = pairs.filter(([was, is]) => was !== undefined && !Object.is(was, is)).map(([was, is]) => signed(is - was));
+            const words = before && !before[0] ? 'new' : moved.join(' · ');
             this.values.words(i, last, words, words ? 'changed' : '');
         });
         const words = marksSentence(marks);
@@ -195,5 +203,6 @@ export function marksSentence(marks) {
     const { place, moved, whole, from, to, changed, outside, lowest, highest } = marks, what = moved > 0 ? 'Insertion' : moved < 0 ? 'Removal' : 'Edit';
     if (whole) return `The settings were changed: ${changed} values are other ones.`;
     const where = to < from ? '' : outside ? `; ${outside} OUTSIDE places ${from} to ${to}` : `, none outside ${from} to ${to}, where the theorem allows it`;
-    return `${what} at place ${place}: ${changed ? `${changed} value${changed === 1 ? '' : 's'} changed, at place${lowest === highest ? ` ${lowest}` : `s ${lowest} to ${highest}`}` : 'no value changed'}${where}.`;
+    const many = changed === 1 ? '1 value' : `${changed} values`, places = lowest === highest ? `place ${lowest}` : `places ${lowest} to ${highest}`;
+    return `${what} at place ${place}: ${changed ? `${many} changed, at ${places}` : 'no value changed'}${where}.`;
 }

@@ -158,8 +158,8 @@ export class Playfield {
         c.beginPath();
         points.forEach((p, i) => (i ? c.lineTo(...place(p)) : c.moveTo(...place(p))));
         c.lineCap = c.lineJoin = 'round';
-        const alpha = c.globalAlpha;
-        for (const [width, colour, share] of [[2 * r, colours['note-edge'], 1], [2 * r - Math.max(5, r * 0.18), colours.field, 1], [2 * r - Math.max(5, r * 0.18), colours.note, 0.35]]) {
+        const alpha = c.globalAlpha, inner = 2 * r - Math.max(5, r * 0.18);
+        for (const [width, colour, share] of [[2 * r, colours['note-edge'], 1], [inner, colours.field, 1], [inner, colours.note, 0.35]]) {
             c.globalAlpha = alpha * share;
             c.lineWidth = Math.max(width, 1);
             c.strokeStyle = colour;
@@ -258,8 +258,8 @@ export class Playfield {
     /** The note under a pointer: the selected one if it is there, else the one that starts next to the time shown. */
     find(at) {
         const { objects, selected, time } = this.editor, p = this.fieldAt(at), radius = this.settings.numbers[1];
-        const hit = (k) => Math.hypot(objects[k].x + objects[k].stackX - p.x, objects[k].y + objects[k].stackY - p.y) <= (objects[k].kind === SPINNER ? 24 : Math.max(radius, 8));
-        const found = this.inSight().filter(hit);
+        const reach = (o) => (o.kind === SPINNER ? 24 : Math.max(radius, 8)), hit = (o) => Math.hypot(o.x + o.stackX - p.x, o.y + o.stackY - p.y) <= reach(o);
+        const found = this.inSight().filter((k) => hit(objects[k]));
         if (found.includes(selected)) return selected;
         return found.sort((a, b) => Math.abs(objects[a].start - time) - Math.abs(objects[b].start - time))[0] ?? -1;
     }

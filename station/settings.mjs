@@ -1,12 +1,15 @@
-// Settings of the players side by side: the chart's own, which are bytes 32 to 79 of its header, those of a second player, and the mods and numbers that come with the ratings of each.
+// Settings of the players side by side: the chart's own, which are bytes 32 to 79 of its header, those of a second player, and the mods and numbers that
+// come with the ratings of each.
 import { FLAGS, RANGES, readSettings, writeSettings } from './chart.mjs';
 import { MODS } from './library.mjs';
 import { element, single } from './view.mjs';
 import { settingFault } from './words.mjs';
 
-const NUMBERS = { approachRate: 'approach rate', overallDifficulty: 'overall difficulty', baseMultiplier: 'base multiplier', attractionStrength: 'attraction strength', startScale: 'start scale' };
+const NUMBERS = { approachRate: 'approach rate', overallDifficulty: 'overall difficulty', baseMultiplier: 'base multiplier',
+    attractionStrength: 'attraction strength, if any', startScale: 'start scale, if any' };
 const OPTIONAL = ['attractionStrength', 'startScale'];
-const MOD_NAMES = { autopilot: 'autopilot', relax: 'relax', touchDevice: 'touch device', hidden: 'hidden', flashlight: 'flashlight', traceable: 'traceable', fadeOnly: 'fade only' };
+const MOD_NAMES = { autopilot: 'autopilot', relax: 'relax', touchDevice: 'touch device', hidden: 'hidden', flashlight: 'flashlight', traceable: 'traceable',
+    fadeOnly: 'fade only' };
 
 /** What ratings are asked with where nothing was set. */
 export function usual() {
@@ -18,30 +21,38 @@ export class Settings {
         Object.assign(this, { parent, editor });
     }
 
-    /** Makes the table anew, with a column for each player; the second one can be had only where the library has the calls. */
+    /** Makes both tables anew, with a column for each player; the second one can be had only where the library has the calls. */
     make() {
-        const { editor } = this, { players } = editor;
+        const { editor } = this, { players } = editor, asked = players.map((player) => editor.asked[player]);
+        const given = players.map((player) => readSettings(player ? editor.second : editor.settings));
         this.fault = element('p', { class: 'line fault', role: 'alert' });
         this.inputs = players.map(() => ({}));
-        const heads = players.map((player) => element('th', { scope: 'col' }, players.length > 1 ? `player ${player + 1}` : ''));
-        const given = players.map((player) => readSettings(player ? editor.second : editor.settings));
-        const rows = RANGES.map(({ name, width, unit }, i) => this.row(name, name.replace('-', ' ') + (unit && `, ${unit}`), given.map(({ numbers }) => (width === 32 ? single(numbers[i]) : numbers[i])), 'enter'));
-        rows.push(...FLAGS.map((name, i) => this.row(`flag-${name}`, name, given.map(({ flags }) => Boolean((flags >> i) & 1)), 'enter')));
-        const asked = players.map((player) => editor.asked[player]), optional = (name) => (OPTIONAL.includes(name) ? ', if any' : '');
-        const more = Object.entries(NUMBERS).map(([name, label]) => this.row(name, label + optional(name), asked.map(({ numbers }) => numbers[name] ?? ''), 'ask'));
-        more.push(...Object.entries(MOD_NAMES).map(([name, label]) => this.row(name, label, asked.map(({ mods }) => Boolean(mods & MODS[name])), 'ask')));
-        const table = (caption, body) => element('table', { class: 'numbers entries' }, element('thead', {}, element('tr', {}, element('th', { scope: 'col', class: 'caption' }, caption), ...heads.map((head) => head.cloneNode(true)))),
-            element('tbody', {}, ...body));
-        this.parent.replaceChildren(...(editor.station.forTwo ? [this.toggle()] : []), table('of the chart', rows), this.fault, table('for the ratings', more));
+        const shown = ({ width }, x) => (width === 32 ? single(x) : x), label = ({ name, unit }) => name.replace('-', ' ') + (unit && `, ${unit}`);
+        const own = [
+            ...RANGES.map((range, i) => this.row(range.name, label(range), given.map(({ numbers }) => shown(range, numbers[i])), 'enter')),
+            ...FLAGS.map((name, i) => this.row(`flag-${name}`, name, given.map(({ flags }) => Boolean((flags >> i) & 1)), 'enter')),
+        ];
+        const rated = [
+            ...Object.entries(NUMBERS).map(([name, words]) => this.row(name, words, asked.map(({ numbers }) => numbers[name] ?? ''), 'ask')),
+            ...Object.entries(MOD_NAMES).map(([name, words]) => this.row(name, words, asked.map(({ mods }) => Boolean(mods & MODS[name])), 'ask')),
+        ];
+        const second = editor.station.forTwo ? [this.toggle()] : [];
+        this.parent.replaceChildren(...second, this.table('of the chart', own), this.fault, this.table('for the ratings', rated));
+    }
+
+    table(caption, rows) {
+        const { players } = this.editor, heads = players.map((player) => element('th', { scope: 'col' }, players.length > 1 ? `player ${player + 1}` : ''));
+        const head = element('tr', {}, element('th', { scope: 'col', class: 'caption' }, caption), ...heads);
+        return element('table', { class: 'numbers entries' }, element('thead', {}, head), element('tbody', {}, ...rows));
     }
 
     /** A row of the table: a number or a box for each player, which calls a method when it is changed. */
     row(name, label, values, method) {
         const cells = values.map((value, player) => {
-            const words = { id: `p${player}-${name}`, 'aria-label': values.length > 1 ? `${label}, player ${player + 1}` : label, onchange: () => this[method](player) };
-            const input = typeof value === 'boolean' ? element('input', { type: 'checkbox', checked: value, ...words }) : element('input', { type: 'number', step: 'any', value, ...words });
-            this.inputs[player][name] = input;
-            return element('td', {}, input);
+            const kind = typeof value === 'boolean' ? { type: 'checkbox', checked: value } : { type: 'number', step: 'any', value };
+            const told = values.length > 1 ? `${label}, player ${player + 1}` : label;
+            this.inputs[player][name] = element('input', { ...kind, id: `p${player}-${name}`, 'aria-label': told, onchange: () => this[method](player) });
+            return element('td', {}, this.inputs[player][name]);
         });
         return element('tr', {}, element('th', { scope: 'row' }, label), ...cells);
     }

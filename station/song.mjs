@@ -76,7 +76,8 @@ class Song {
             const [x, y] = path[i % 2 ? 0 : 2], last = i + 1 === spans;
             entries.push({ start: last ? end - 36 : start + (i + 1) * span, x: this.x + x, y: this.y + y, kind: last ? TAIL : 1 });
         }
-        this.put({ kind: SLIDER, start, end, spans, nestedFirst: this.nested.length, nestedCount: entries.length, pointsFirst: this.points.length, pointsCount: 3 });
+        const firsts = { nestedFirst: this.nested.length, pointsFirst: this.points.length };
+        this.put({ kind: SLIDER, start, end, spans, ...firsts, nestedCount: entries.length, pointsCount: 3 });
         this.nested.push(...entries);
         this.points.push(...path.map(([x, y], i) => ({ x, y, length: lengths[i] })));
         this.at += (spans + 0.5) * BEAT;

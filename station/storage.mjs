@@ -85,7 +85,8 @@ export function keepHistory(done, undone) {
 
 export function keptHistory() {
     try {
-        const bytes = (text) => (text === null ? null : fromBase64(text)), edits = (list) => list.map((e) => ({ ...e, before: bytes(e.before), after: bytes(e.after) }));
+        const bytes = (text) => (text === null ? null : fromBase64(text));
+        const edits = (list) => list.map((e) => ({ ...e, before: bytes(e.before), after: bytes(e.after) }));
         const { done, undone } = JSON.parse(get(HISTORY));
         return { done: edits(done), undone: edits(undone) };
     } catch {

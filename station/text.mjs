@@ -144,7 +144,9 @@ function unpack(bytes) {
     let at = FRONT, whole = true;
     c.settings = unpackRow(v, SETTINGS_AT, SETTINGS_FORM);
     c.stated = words[7] === 1;
-    for (const [form, table, count] of [[c.stated ? STATED_FORM : OBJECT_FORM, c.objects, words[0]], [NESTED_FORM, c.nested, words[1]], [POINT_FORM, c.points, words[2]]]) {
+    const forms = [c.stated ? STATED_FORM : OBJECT_FORM, NESTED_FORM, POINT_FORM], tables = [c.objects, c.nested, c.points];
+    for (const [i, table] of tables.entries()) {
+        const form = forms[i], count = words[i];
         const fits = whole ? Math.min(count, Math.floor((bytes.length - at) / sizeOf(form))) : 0;
         for (let i = 0; i < fits; i++) table.push(unpackRow(v, at + sizeOf(form) * i, form));
         at += sizeOf(form) * fits;
@@ -293,7 +295,8 @@ class Reader {
 
     takeSetting(name, words) {
         const { width, unit } = RANGES.find((r) => r.name === name);
-        if (words.length < 1 || words.length > 2 || (words.length === 2 && words[1] !== unit)) throw new TextError(`${name} takes a number` + (unit ? ` and the unit ${unit}` : ''));
+        const plain = words.length === 1 || (words.length === 2 && words[1] === unit);
+        if (!plain) throw new TextError(`${name} takes a number` + (unit ? ` and the unit ${unit}` : ''));
         if (this.settings.has(name)) throw new TextError(`${name} is given twice`);
         this.settings.set(name, readFloat(words[0], width));
     }
@@ -319,7 +322,8 @@ class Reader {
         const kind = KINDS.includes(name) ? KINDS.indexOf(name) : k.kind[0], slider = kind === SLIDER;
         this.own = new Set(['nested', 'points'].filter((key) => k[key]));
         const nested = k.nested ?? [slider ? this.chart.nested.length : 0, 0], points = k.points ?? [slider ? this.chart.points.length : 0, 0];
-        const o = [...k.at, ...(k.to ?? k.at), ...k.x, ...k.y, ...(k.stack ?? [0, 0]), kind, ...(k.spans ?? [Number(slider)]), ...nested, ...points, ...(k.length ?? [0n])];
+        const spans = k.spans ?? [Number(slider)], length = k.length ?? [0n];
+        const o = [...k.at, ...(k.to ?? k.at), ...k.x, ...k.y, ...(k.stack ?? [0, 0]), kind, ...spans, ...nested, ...points, ...length];
         this.chart.stated ||= Boolean(k.length);
         this.chart.objects.push(o);
         this.open = slider ? o : null;

@@ -48,7 +48,8 @@ export class Timeline {
     }
 
     drawRuler(c) {
-        const { span, surface } = this, { muted, grid } = this.look.colours, step = niceStep(span.to - span.from, Math.max(surface.width / (this.ruler * 5.5), 1)), digits = step >= 1000 ? 0 : step >= 100 ? 1 : 3;
+        const { span, surface } = this, { muted, grid } = this.look.colours, parts = Math.max(surface.width / (this.ruler * 5.5), 1);
+        const step = niceStep(span.to - span.from, parts), digits = step >= 1000 ? 0 : step >= 100 ? 1 : 3;
         c.font = `${this.look.colours.size * 0.86}px system-ui, sans-serif`;
         c.textAlign = 'left';
         c.fillStyle = muted;
@@ -66,13 +67,14 @@ export class Timeline {
 
     /** A note's size: what its neighbours leave, to a limit. */
     size(k) {
-        const { objects } = this.editor, x = (j) => this.x(objects[j].start), most = Math.min(this.look.colours.size, (this.surface.height - this.ruler) / 2 - 4);
+        const { objects } = this.editor, x = (j) => this.x(objects[j].start), { size } = this.look.colours;
+        const most = Math.min(size, (this.surface.height - this.ruler) / 2 - 4);
         const gap = Math.min(k > 0 ? x(k) - x(k - 1) : 99, k + 1 < objects.length ? x(k + 1) - x(k) : 99);
         return Math.max(3, Math.min(most, gap / 2 - 0.5));
     }
 
     drawNote(c, k) {
-        const { editor, surface } = this, o = editor.objects[k], colours = this.look.colours, x = this.x(o.start), middle = this.ruler + (surface.height - this.ruler) / 2;
+        const { editor, surface } = this, o = editor.objects[k], { colours } = this.look, x = this.x(o.start), middle = (surface.height + this.ruler) / 2;
         const chosen = k === editor.selected, r = chosen ? Math.max(this.size(k), 5) : this.size(k), changed = editor.marks?.rows.has(k) && !editor.marks.whole;
         if (o.kind !== CIRCLE) {
             c.globalAlpha = 0.4;

@@ -1,8 +1,8 @@
-// What the views share: colours of the style sheet, canvases that follow their size, the span of time that the lanes show, and how numbers and times are written.
+// What the views share: colours of the style sheet, canvases that follow their size, the span of time that is shown, and how numbers and times are written.
 import { bitsOf, hex } from './text.mjs';
 
-const NAMES = ['paper', 'surface', 'ink', 'muted', 'line', 'grid', 'field', 'note', 'note-edge', 'note-ink', 'approach', 'select', 'changed', 'window', 'refused', 'aim', 'aim-plain', 'speed',
-    'rhythm', 'flashlight', 'ghost'];
+const NAMES = ['muted', 'line', 'grid', 'field', 'note', 'note-edge', 'note-ink', 'approach', 'select', 'changed', 'window', 'ghost', 'aim', 'aim-plain',
+    'speed', 'rhythm', 'flashlight'];
 
 /** The style sheet's colours by name, as they are now, and the size of its type. */
 export function colours() {

@@ -1,6 +1,7 @@
-// Why the library refused something, in words. Number and place are the library's; the reason is looked up in the bytes, in the words of `tools/chart.py explain`.
+// Why the library refused something, in words. Number and place are the library's; the reason is looked up in the bytes, and said as `tools/chart.py` says it.
 import { objectSize } from '../clients/station.mjs';
-import { ENTRIES, FRONT, KINDS, NESTED, RANGES, SETTINGS_AT, SLIDER, TAIL, header, nestedOf, objectAt, pointsOf, readSettings, viewOf } from './chart.mjs';
+import { ENTRIES, FRONT, KINDS, NESTED, POINT, RANGES, SETTINGS_AT, SLIDER, TAIL, header, nestedOf, objectAt, pointsOf, readSettings,
+    viewOf } from './chart.mjs';
 import { bitsOf, show } from './text.mjs';
 
 export function grouped(n) {
@@ -34,8 +35,9 @@ function headerFault(bytes) {
     }
     if (h.stated > 1) return `the word at 28 is ${grouped(h.stated)}, allowed are 0 (objects of 56 bytes) and 1 (objects of 64 bytes, with a stated length)`;
     let at = FRONT;
-    for (const [found, what, table] of [[h.objectsAt, 'offset of the objects', size * h.objects], [h.nestedAt, 'offset of the nested entries', NESTED * h.nested],
-        [h.pointsAt, 'offset of the points', 16 * h.points], [h.length, 'length in the header', 0]]) {
+    const offsets = [[h.objectsAt, 'offset of the objects', size * h.objects], [h.nestedAt, 'offset of the nested entries', NESTED * h.nested],
+        [h.pointsAt, 'offset of the points', POINT * h.points], [h.length, 'length in the header', 0]];
+    for (const [found, what, table] of offsets) {
         const because = size === 64 ? ', as the word at 28 is 1: objects have 64 bytes' : '';
         if (found !== at) return `the ${what} is ${grouped(found)}, by the counts it must be ${grouped(at)}${because}`;
         at += table;
@@ -66,8 +68,9 @@ function objectFault(o) {
 }
 
 function otherFault(name, o) {
-    const words = { 'number of spans': o.spans, 'first nested entry': o.nestedFirst, 'number of nested entries': o.nestedCount, 'first point': o.pointsFirst, 'number of points': o.pointsCount };
-    for (const [what, word] of Object.entries(words)) {
+    const words = [['number of spans', o.spans], ['first nested entry', o.nestedFirst], ['number of nested entries', o.nestedCount],
+        ['first point', o.pointsFirst], ['number of points', o.pointsCount]];
+    for (const [what, word] of words) {
         if (word) return `the ${name}'s ${what} is ${grouped(word)}, it must be 0: only a slider has one`;
     }
     if (o.length !== 0) return `the ${name}'s stated length is ${said(o.length)}, it must be 0: only a slider has one`;

@@ -68,7 +68,8 @@ class Serving(unittest.TestCase):
                         self.assertIn(path, self.station.files(), f"{name} asks for {other}")
 
     def test_nothing_else(self):
-        for path in ("/README.md", "/tools/station", "/station/test", "/station/../README.md", "/station/tests/page.py", "/crates.txt", "/station/%2e%2e/README.md", "/examples/", "/clients/client.c"):
+        for path in ("/README.md", "/tools/station", "/station/test", "/station/../README.md", "/station/%2e%2e/README.md", "/station/tests/page.py",
+                     "/crates.txt", "/examples/", "/clients/client.c"):
             self.assertEqual(self.get(path)[0], 404, path)
 
 

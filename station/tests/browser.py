@@ -5,7 +5,7 @@ import time
 
 from selenium.webdriver.common.keys import Keys
 
-from page import ROOT, Page, script
+from page import Page, script, serving
 import chart
 
 listing = script("list")
@@ -101,6 +101,12 @@ def dragging(page, checks):
     moved, old = chart.unpack(fourth), chart.unpack(third)
     shift = [chart.value(moved.nested[k][1], 32) - chart.value(old.nested[k][1], 32) for k in range(len(old.nested))]
     assert any(shift) and [bool(x) for x in shift].count(True) == old.objects[5][9], f"nested entries moved by {shift}"
+    page.drag(page.note(5), [(8, -3)] * 5 + [(-8, 3)] * 5)
+    assert checks.same("a slider dragged to and fro") == fourth
+    page.hold(page.note(2), [(9, 4)] * 3)
+    page.keys(Keys.ESCAPE)
+    page.release()
+    assert checks.same("a drag let go") == fourth
     for want in (third, second, first):
         page.control("z")
         assert checks.same("undone") == want
@@ -108,6 +114,22 @@ def dragging(page, checks):
         page.control("z", shift=True)
         assert checks.same("redone") == want
     return 3
+
+
+def sharing(page, checks):
+    """Two sliders of the same nested entries: the one that is dragged gets its own, the other keeps its values."""
+    lines = ["slider at 1000 to 1400 x 100 y 100", "  tick at 1200 x 150 y 100", "  tail at 1400 x 200 y 100", "  point x 0 y 0", "  point x 100 y 0",
+             "slider at 1800 to 2200 x 120 y 200 nested 0 2 points 0 2", "circle at 2600 x 300 y 300"]
+    settings = ["clock-rate 1", "radius 36", "hit-window 45", "preempt 700", "fade-in 400", "factor 1.3"]
+    page.drop("shared.txt", "\n".join(settings + lines).encode())
+    before = checks.same("shared entries")
+    page.go_to(1)
+    page.drag(page.note(1), [(6, 6)] * 5)
+    after = checks.same("one of two sliders dragged")
+    old, new = chart.unpack(before), chart.unpack(after)
+    assert new.nested[:2] == old.nested and len(new.nested) == 4 and new.objects[0] == old.objects[0] and new.objects[1][8] == 2, chart.to_text(after)
+    page.control("z")
+    page.control("z")
 
 
 def by_keys(page, checks):
@@ -120,8 +142,9 @@ def by_keys(page, checks):
     page.keys("[", "]", "]")
     page.run("station.editor.settle()")
     after = checks.same("a note moved by keys")
-    x, y, start = (chart.value(chart.unpack(after).objects[9][i], 64 if i == 0 else 32) - chart.value(chart.unpack(before).objects[9][i], 64 if i == 0 else 32) for i in (2, 3, 0))
-    assert (x, y, start) == (9, 20, 10), (x, y, start)
+    new, old = chart.unpack(after).objects[9], chart.unpack(before).objects[9]
+    moved = tuple(chart.value(new[i], width) - chart.value(old[i], width) for i, width in ((2, 32), (3, 32), (0, 64)))
+    assert moved == (9, 20, 10), moved
     checks.window("a note moved by keys", before, after, 9)
     page.click("undo")
     assert checks.same("keys undone") == before, "one run of keys is one edit"
@@ -160,9 +183,11 @@ def refusals(page, checks):
         page.control("z")
     checks.unmoved("a refused drag", *far)
     page.go_to(12)
-    near = checks.refused("a drag in time before the note before", lambda: (page.enter("field-start", "10")), "starts before the note before it, which starts at 4475 ms (5 at place 12)")
+    near = checks.refused("a start before the one before", lambda: page.enter("field-start", "10"),
+                          "starts before the note before it, which starts at 4475 ms (5 at place 12)")
     checks.unmoved("a start before the one before", *near)
-    for field, words, sentence in (("field-x", "140000", "the circle's x is 140000, allowed are -131,072 to 131,072 (3 at place 12)"), ("field-stackY", "2000", "stack offset y is 2000"),
+    for field, words, sentence in (("field-x", "140000", "the circle's x is 140000, allowed are -131,072 to 131,072 (3 at place 12)"),
+                                   ("field-stackY", "2000", "stack offset y is 2000"),
                                    ("field-start", "-5", "the circle's start is -5, allowed are 0 to 10,000,000 (3 at place 12)")):
         checks.unmoved(field, *checks.refused(field, lambda: page.enter(field, words), sentence))
     page.go_to(18)
@@ -203,8 +228,10 @@ def files(page, checks):
     assert page.run("return station.editor.name") == "two_circles" and checks.same("an opening redone") != data
     page.drop("dropped.chart", data)
     assert page.run("return station.editor.name") == "dropped" and checks.same("the bytes dropped") == data
-    for name, wrong, words in (("junk.chart", b"not a chart", "1: the chart has 11 bytes, its header alone takes 80"), ("cut.chart", data[:-1], "its header says"),
-                               ("order.chart", chart.to_bytes(text.decode().replace("at 1200", "at 900")), "5 at place 1: it starts at 900, before the object at place 0")):
+    early = chart.to_bytes(text.decode().replace("at 1200", "at 900"))
+    for name, wrong, words in (("junk.chart", b"not a chart", "1: the chart has 11 bytes, its header alone takes 80"),
+                               ("cut.chart", data[:-1], "its header says"),
+                               ("early.chart", early, "5 at place 1: it starts at 900, before the object at place 0")):
         page.give(name, wrong)
         page.wait("return document.getElementById('note').textContent.startsWith(arguments[0])", f"{name} is refused", name)
         assert words in page.text("note") and page.bytes() == data, page.text("note")
@@ -274,7 +301,8 @@ def speed(page):
 
 
 def two_players(page, checks):
-    """A second player beside the first, where the library has the calls: its values are the lister's of the chart under its settings, and an edit that one is refused is refused for both."""
+    """A second player beside the first, where the library has the calls: its values are the lister's of the chart under its settings, and an edit that is
+    refused for one is refused for both."""
     if not page.run("return station.editor.station.forTwo"):
         return "no second player, as the library has no calls for one"
     page.click("tab-settings")
@@ -308,24 +336,28 @@ def labelled(page):
     """Everything that takes the keyboard has a name, the help opens and closes, and nothing came from elsewhere."""
     nameless = page.run("""
         const named = (e) => e.ariaLabel || e.getAttribute('aria-labelledby') || e.labels?.length || e.textContent.trim() || e.title;
-        return Array.from(document.querySelectorAll('button, input, select, textarea, canvas[tabindex], [role=tab]')).filter((e) => !named(e)).map((e) => e.outerHTML)""")
+        const all = Array.from(document.querySelectorAll('button, input, select, textarea, canvas[tabindex], [role=tab]'));
+        return all.filter((e) => !named(e)).map((e) => e.outerHTML)""")
     assert not nameless, nameless
     page.run("document.getElementById('playfield').focus()")
     page.keys("?")
     assert page.by("help-dialog").is_displayed()
     page.keys(Keys.ESCAPE)
     assert not page.by("help-dialog").is_displayed()
-    elsewhere = page.run("return performance.getEntriesByType('resource').map((e) => e.name).filter((name) => !name.startsWith(location.origin) && !name.startsWith('blob:'))")
+    asked = page.run("return performance.getEntriesByType('resource').map((e) => e.name)")
+    elsewhere = [name for name in asked if not name.startswith((page.url.removesuffix("station/"), "blob:"))]
     assert not elsewhere, elsewhere
 
 
 def run():
     """A line that says what was tried; an AssertionError says what is wrong."""
+    serving.build()
     began = time.time()
     with Page() as page:
         page.bits()
         checks = Checks(page)
         drags = dragging(page, checks)
+        sharing(page, checks)
         by_keys(page, checks)
         refused = refusals(page, checks)
         rating(page)
@@ -335,14 +367,16 @@ def run():
         labelled(page)
         middle, most, steps = speed(page)
         assert not page.faults()
-    line = (f"page in chromium: {drags} drags, keys, insertions, removals, undo and redo, {refused} refusals, {wrong} files opened or refused, a reload, {two}; "
-            f"{checks.compared} shown numbers as the lister has them; a drag step of 1,000 notes {middle:.1f} ms, 19 of 20 of {steps} within {most:.1f} ms")
+    line = (f"page in chromium: {drags} drags, keys, insertions, removals, undo and redo, {refused} refusals, "
+            f"{wrong} files opened or refused, a reload, {two}; {checks.compared} shown numbers as the lister has them; "
+            f"a drag step of 1,000 notes {middle:.1f} ms, 19 of 20 of {steps} within {most:.1f} ms")
     print(f"station, {line} ({time.time() - began:.0f} s)", flush=True)
     return line
 
 
 def shots(folder):
     """Pictures of the page at two sizes, light and dark."""
+    serving.build()
     os.makedirs(folder, exist_ok=True)
     for width, height in ((1280, 720), (2560, 1440)):
         for dark in (False, True):

@@ -1,4 +1,5 @@
-"""Holds text.mjs and words.mjs to tools/chart.py: the same text for the same bytes, the same bytes or the same error for the same text, the same sentence for the same refusal.
+"""Holds text.mjs and words.mjs to tools/chart.py: the same text for the same bytes, the same bytes or the same error for the same text, the same sentence
+for the same refusal.
 
 The charts are those of examples/ and the stored ones of test_opening and test_listings; the texts are theirs, damaged ones among them.
 """
@@ -14,8 +15,10 @@ ROOT = os.path.dirname(STATION)
 sys.path.insert(0, os.path.join(ROOT, "tools"))
 import chart
 
-WORDS = ("at", "to", "x", "y", "point", "tick", "slider", "circle", "0x3F", "1e999", "-0", "1e-320", "3.4028236e38", "length", "stated", "bytes", "zz", "flags", "4294967296", "#", "none", "loose")
-NUMBERS = ("0.1", "1e-05", "1e16", "1e15", "1234567890123456.0", "2097152.25", "1.17549435e-38", "1e-45", "3.4028235e38", "5e-324", "1.7976931348623157e308", "-0", "0.1e-3", "123456.789", ".5", "5.", "+7")
+WORDS = ("at", "to", "x", "y", "point", "tick", "slider", "circle", "0x3F", "1e999", "-0", "1e-320", "3.4028236e38", "length", "stated", "bytes", "zz", "flags",
+         "4294967296", "#", "none", "loose")
+NUMBERS = ("0.1", "1e-05", "1e16", "1e15", "1234567890123456.0", "2097152.25", "1.17549435e-38", "1e-45", "3.4028235e38", "5e-324", "1.7976931348623157e308",
+           "-0", "0.1e-3", "123456.789", ".5", "5.", "+7")
 
 
 def stored(program):
@@ -69,14 +72,14 @@ BESIDE = (
     (9, 0, 0, "", "there is no room for another object: a chart has 16,384 at most (9)"),
     (10, 0, 0, "", "a number for the ratings is not finite (10)"),
 )
-LINES = {"clock-rate": "clock-rate 1", "radius": "radius 40", "hit-window": "hit-window 50", "preempt": "preempt 600", "fade-in": "fade-in 400", "factor": "factor 1.25"}
+SETTINGS = ("clock-rate 1", "radius 40", "hit-window 50", "preempt 600", "fade-in 400", "factor 1.25")
 
 
 def beside():
     """Cases for all ten numbers."""
     for number, place, at, line, want in BESIDE:
         circles = [f"circle at {t} x 100 y 100" for t in (1000, 2000, 3000)]
-        lines = {**LINES, "header": ""}
+        lines = {setting.split(" ")[0]: setting for setting in SETTINGS} | {"header": ""}
         if line.split(" ")[0] in lines:
             lines[line.split(" ")[0]] = line
         elif line:
@@ -119,7 +122,8 @@ def run():
         errors += want[:1] == b"\1" and case[:1] == b"t"
     assert at == len(done.stdout)
     kinds = [sum(case[:1] == kind for case, _ in pairs) for kind in (b"b", b"t", b"e", b"s")]
-    return f"text form: {kinds[0]} charts as text, {kinds[1]} texts ({errors} of them wrong) and {kinds[2]} refusals in words, as tools/chart.py has them; {kinds[3]} sentences beside a note, for all ten numbers"
+    return (f"text form: {kinds[0]} charts as text, {kinds[1]} texts ({errors} of them wrong) and {kinds[2]} refusals in words, as tools/chart.py has them; "
+            f"{kinds[3]} sentences beside a note, for all ten numbers")
 
 
 if __name__ == "__main__":

@@ -28,7 +28,7 @@ def script(name):
 
 serving = script("station")
 
-# Goes through all places and reads what stands in the tables. Of each place: the words of the title, the values and the comparisons; then totals, counts and ratings.
+# Goes through all places and reads what stands in the tables: of each place its title, values and comparisons; then totals, counts and ratings.
 READ = """
 const { editor } = station, kept = [editor.selected, editor.time], cells = (table, column) =>
     Array.from(document.querySelectorAll(`#${table} tbody tr`), (row) => row.cells[column + 1].textContent);
@@ -155,7 +155,8 @@ class Page:
     def note(self, place, lane=False):
         """Where a note is in the window, on the playfield or on the timeline."""
         return self.run("""
-            const o = station.editor.objects[arguments[0]], part = arguments[1] ? station.timeline : station.playfield, box = part.surface.canvas.getBoundingClientRect();
+            const o = station.editor.objects[arguments[0]], part = arguments[1] ? station.timeline : station.playfield;
+            const box = part.surface.canvas.getBoundingClientRect();
             const [x, y] = arguments[1] ? [part.x(o.start), (part.ruler + box.height) / 2] : part.head(o);
             return [box.left + x, box.top + y];""", place, lane)
 
