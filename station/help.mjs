@@ -29,7 +29,7 @@ const KEYS = {
 
 const WORDS = [
     'Drag a note on the playfield to move it, on the timeline to move it in time. Double-click free ground to put a circle in. '
-        + 'The wheel goes through time on the playfield and zooms the timeline and the graphs.',
+        + 'A click on a graph selects the note there. The wheel goes through time on the playfield and zooms the timeline and the graphs.',
     'Every edit is a call of a library that is proved to answer as its definitions say, on every input. What an edit changed is marked: '
         + 'the band is where the theorem allows changes, one place before the note to 33 behind it; '
         + 'dots in the band are values that have other bits now, the thin line is what they were.',

@@ -83,6 +83,7 @@ class App {
     newChart() {
         const { editor, span } = this;
         document.title = `${editor.name} · Station`;
+        id('name').textContent = id('name').title = editor.name;
         id('note').hidden = true;
         this.playing(false);
         span.bound(editor.objects);

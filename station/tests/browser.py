@@ -332,6 +332,20 @@ def two_players(page, checks):
     return "a second player beside the first"
 
 
+def playing(page):
+    """Time goes on while it plays, at the chart's clock rate and no faster, and stands when it is paused."""
+    page.go_to(0)
+    page.run("document.getElementById('playfield').focus()")
+    begin, began = page.run("return station.editor.time"), time.time()
+    page.keys(" ")
+    page.wait("return station.editor.time > arguments[0] + 300", "time goes on", begin)
+    page.keys(" ")
+    reached = page.run("return station.editor.time")
+    assert reached - begin <= (time.time() - began) * 1000, f"{reached - begin} ms"
+    time.sleep(0.2)
+    assert page.run("return station.editor.time") == reached
+
+
 def labelled(page):
     """Everything that takes the keyboard has a name, the help opens and closes, and nothing came from elsewhere."""
     nameless = page.run("""
@@ -364,6 +378,7 @@ def run():
         wrong = files(page, checks)
         reloading(page, checks)
         two = two_players(page, checks)
+        playing(page)
         labelled(page)
         middle, most, steps = speed(page)
         assert not page.faults()
