@@ -143,7 +143,7 @@ class Strip {
             pen = Number.isFinite(y);
         }
         c.setLineDash(player ? [5, 4] : index === 1 ? [2, 3] : []);
-        c.lineWidth = index === 1 ? 1.2 : 1.8;
+        c.lineWidth = (index === 1 ? 0.1 : 0.14) * this.graphs.look.colours.size;
         c.lineJoin = 'round';
         c.strokeStyle = colour;
         c.stroke();
@@ -169,13 +169,13 @@ class Strip {
 
     // A dot for each place where there is room; those that the last edit changed always have one.
     drawDots(c, player, index, colour, first, last, x) {
-        const { marks } = this.graphs.editor, { changed } = this.graphs.look.colours;
+        const { marks } = this.graphs.editor, { changed, size } = this.graphs.look.colours;
         for (let k = first; k <= last; k++) {
             const before = marks && !marks.whole ? marks.rows.get(k) : undefined, y = this.at(player, index, k);
             const isNew = before && (!before[player] || !Object.is(before[player][index], y));
             if (!(isNew || this.sparse) || !Number.isFinite(y)) continue;
             c.beginPath();
-            c.arc(x(k), this.y(y), isNew ? 3 : 1.9, 0, 2 * Math.PI);
+            c.arc(x(k), this.y(y), (isNew ? 0.25 : 0.15) * size, 0, 2 * Math.PI);
             c.fillStyle = isNew ? changed : colour;
             c.fill();
         }

@@ -11,7 +11,7 @@ import { keepChart, keepHistory, keepRest, keptChart, keptHistory, keptRest } fr
 import { Overview, Timeline } from './timeline.mjs';
 import { Span, clock, colours, shown } from './view.mjs';
 
-const WASM = '../target/wasm/station.wasm', MODES = ['short', 'all', 'bits'], THEMES = ['system', 'light', 'dark'], STAYS = 6000;
+const WASM = '../target/wasm/station.wasm', MODES = ['short', 'all', 'bits'], THEMES = ['system', 'light', 'dark'], STAYS = 6000, STEPS = 15;
 const id = (name) => document.getElementById(name);
 
 // ---------------------------------------------------------------- messages
@@ -85,6 +85,7 @@ class App {
         document.title = `${editor.name} · Station`;
         id('name').textContent = id('name').title = editor.name;
         id('note').hidden = true;
+        this.steps = [];
         this.playing(false);
         span.bound(editor.objects);
         span.set(span.whole[0], Math.min(span.whole[1], span.whole[0] + 30_000));
@@ -165,11 +166,13 @@ class App {
         this.timeline.accept();
     }
 
+    /** Shows how long a step of a drag takes: the middle one of the last. */
     meter(time) {
         const meter = id('meter'), { objects } = this.editor;
-        meter.textContent = `drag step ${time.toFixed(1)} ms, ${objects.length.toLocaleString('en-US')} notes`;
-        meter.classList.toggle('slow', time > FRAME);
-        meter.dataset.time = time;
+        this.steps = [...(this.steps ?? []), time].slice(-STEPS);
+        const middle = [...this.steps].sort((a, b) => a - b)[this.steps.length >> 1];
+        meter.textContent = `drag step ${middle.toFixed(1)} ms, ${objects.length.toLocaleString('en-US')} notes`;
+        meter.classList.toggle('slow', middle > FRAME);
     }
 
     enable() {

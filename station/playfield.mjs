@@ -33,7 +33,7 @@ export class Playfield {
 
     // ---------------------------------------------------------------- drawing
 
-    /** Places of the notes that are in sight, the first of them last, so that it is drawn on top. */
+    /** Places of the notes that are in sight, as they are drawn: those that are over, then the others, the first of them last and so on top. */
     inSight() {
         const { editor } = this, { time } = editor, [, , , preempt] = this.settings.numbers, found = [];
         for (const [k, o] of editor.objects.entries()) {
@@ -43,7 +43,8 @@ export class Playfield {
             }
             if (o.end + LINGER >= time || k === editor.selected) found.push(k);
         }
-        return found.reverse();
+        const over = (k) => editor.objects[k].end < time && k !== editor.selected;
+        return [...found.filter(over), ...found.filter((k) => !over(k)).reverse()];
     }
 
     draw() {
