@@ -397,11 +397,11 @@ def shots(folder):
         for dark in (False, True):
             with Page(width, height, dark) as page:
                 page.go_to(5)
-                page.drag(page.note(5), [(8, -3)] * 5)
+                page.drag(page.note(5), [(1, -0.4)] * 40)
                 name = f"station-{width}x{height}-{'dark' if dark else 'light'}"
                 page.driver.save_screenshot(os.path.join(folder, name + ".png"))
                 page.example("thousand")
                 page.go_to(60)
-                page.drag(page.note(60), [(7, 4)] * 6)
+                page.drag(page.note(60), [(1, 0.6)] * 40)
                 page.driver.save_screenshot(os.path.join(folder, name + "-thousand.png"))
     return f"pictures: 8 in {folder}"
