@@ -5,7 +5,7 @@ import time
 
 from selenium.webdriver.common.keys import Keys
 
-from page import Page, script, serving
+from page import ROOT, Page, script, serving
 import chart
 
 listing = script("list")
@@ -129,6 +129,30 @@ def sharing(page, checks):
     old, new = chart.unpack(before), chart.unpack(after)
     assert new.nested[:2] == old.nested and len(new.nested) == 4 and new.objects[0] == old.objects[0] and new.objects[1][8] == 2, chart.to_text(after)
     page.control("z")
+    page.control("z")
+
+
+def far(page, checks):
+    """Edits in a chart that is longer than what one can reach: clients/example.chart, of 102 objects."""
+    with open(os.path.join(ROOT, "clients", "example.chart"), "rb") as file:
+        page.give("example.chart", file.read())
+    before = checks.same("102 objects")
+    for place in (0, 30, 68, 101):
+        page.go_to(place)
+        page.enter("field-x", "77")
+        after = checks.same(f"place {place} moved")
+        checks.window(f"place {place} moved", before, after, place)
+        page.run("document.getElementById('playfield').focus()")
+        page.keys("c")
+        more, put = checks.same("one more"), page.run("return station.editor.selected")
+        checks.window("one more", after, more, put, 1)
+        page.go_to(place)
+        page.keys(Keys.DELETE)
+        fewer = checks.same("one fewer")
+        checks.window("one fewer", more, fewer, place, -1)
+        for want in (more, after, before):
+            page.control("z")
+            assert checks.same("undone") == want
     page.control("z")
 
 
@@ -372,6 +396,7 @@ def run():
         checks = Checks(page)
         drags = dragging(page, checks)
         sharing(page, checks)
+        far(page, checks)
         by_keys(page, checks)
         refused = refusals(page, checks)
         rating(page)
