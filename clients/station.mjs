@@ -135,7 +135,49 @@ export class Chart {
     }
 
     object(place) {
-        return this.bytes.slice(80 + this.objectSize * place, 80 + this.objectSize * (place + 1));
+        return this.#memory(this.#chart).slice(80 + this.objectSize * place, 80 + this.objectSize * (place + 1));
+    }
+
+    // For a class that stands on this one, with calls or slices of its own (station/library.mjs).
+
+    /** What the calls are lent: a slice as its address and its number of elements. */
+    get slices() {
+        return { chart: this.#chart, records: this.#records, values: this.#values, scratch: this.#scratch, list: this.#list, numbers: this.#numbers };
+    }
+
+    /** A new slice of so many elements, of so many bytes each. */
+    claim(length, size) {
+        const slice = this.#claim(length, size);
+        this.#reach(this.#end);
+        return slice;
+    }
+
+    /** The bytes of a slice of bytes, until the memory grows. */
+    memory(slice) {
+        return this.#memory(slice);
+    }
+
+    /** Whether the library has a call of this name. */
+    has(name) {
+        return `difficulty_${name}` in this.#call;
+    }
+
+    /** A call by its name: null where it is carried out, else a Refusal; with a count so many numbers of its output, which is lent last. */
+    carry(name, ...given) {
+        return this.#carry(name, ...given);
+    }
+
+    numbersOf(count, name, ...given) {
+        return this.#numbersOf(count, name, ...given);
+    }
+
+    /** Numbers of a slice of them, copied; bytes lent behind all else, until the next are. */
+    read(slice, count) {
+        return this.#read(slice, count);
+    }
+
+    lend(bytes) {
+        return this.#lent(bytes);
     }
 
     // The calls: null or the numbers where they are carried out, else a Refusal.
