@@ -23,8 +23,8 @@ const UNIT: u64 = 1024;
 
 const BELOW_HALF: u64 = 511;
 
-// A digit of 31 bits.
-const DIGIT: u64 = 0x8000_0000;
+// A digit of 32 bits.
+const DIGIT: u64 = 0x1_0000_0000;
 
 // L and E count in units of 2^-40.
 const TWO_40: u64 = 0x100_0000_0000;
@@ -43,17 +43,25 @@ const LOG2_E: f64 = 1.4426950408889634;
 
 const LOG10_2: f64 = 0.3010299956639812;
 
-// floor(a * b / 2^62), by digits of 31 bits: each column of products fits 64 bits.
-pub fn mul_shift62(a: u64, b: u64) -> u64
-    requires { ⌜ (a < 2 ^ 63) × (b < 2 ^ 63) ⌝ }
-    ensures { λ r. ⌜ r ≡ a * b / 2 ^ 62 ⌝ }
+// floor(a * b / 2^64), by digits of 32 bits. Written so, and in a function of its own, the compiler makes one instruction of it.
+fn mul_high(a: u64, b: u64) -> u64
+    ensures { λ r. ⌜ r ≡ a * b / 2 ^ 64 ⌝ }
 {
     let a1 = a / DIGIT;
     let a0 = a % DIGIT;
     let b1 = b / DIGIT;
     let b0 = b % DIGIT;
-    let middle = a1 * b0 + a0 * b1 + a0 * b0 / DIGIT;
-    a1 * b1 + middle / DIGIT
+    let first = a1 * b0 + a0 * b0 / DIGIT;
+    let second = a0 * b1 + first % DIGIT;
+    a1 * b1 + first / DIGIT + second / DIGIT
+}
+
+// floor(a * b / 2^62).
+pub fn mul_shift62(a: u64, b: u64) -> u64
+    requires { ⌜ (a < 2 ^ 63) × (b < 2 ^ 63) ⌝ }
+    ensures { λ r. ⌜ r ≡ a * b / 2 ^ 62 ⌝ }
+{
+    mul_high(2 * a, 2 * b)
 }
 
 // The forty bits of Log's fraction for M, which stands for M / 2^62: square, and take the bit at 2^63.
