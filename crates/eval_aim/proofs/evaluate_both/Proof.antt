@@ -26,8 +26,7 @@ combine-requires-2 c κs = search needs
 returns : tie.Need-returns
 returns c =
     let a = c .before .before .before .before .before .before .args in
-    let v = viewOf (objectOf (now (a .chart)) (a .lay)) (recordAt (now (a .t))) (a .j) in
-    (
+    let v = viewOf (objectOf (now (a .chart)) (a .lay)) (recordAt (now (a .t))) (a .j) in (
       c .before .combine .ensures ∙ rw (c .before .before .before .parts-place .ensures) (aim-combine v (a .j - 1) true),
       c .combine2 .ensures ∙ rw (c .before .before .parts-without .ensures) (aim-combine v (a .j - 1) false),
     )
