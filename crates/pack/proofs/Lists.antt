@@ -9,19 +9,18 @@ use Rattle.num_floats.specs.Numbers.{zero64}
 use Rattle.num_tables.specs.Parts.{fill}
 use Rattle.chart_opening.specs.Conditions.{firstOf, ifAccepted}
 use Rattle.chart_opening.specs.declared.Refusal.{Refusal}
-use Rattle.chart_opening.specs.declared.Refusal.the-variants.{Place}
 use Rattle.chart_opening.specs.declared.Verdict.{Verdict}
 use Rattle.chart_opening.specs.declared.Verdict.the-variants.{Accepted, Refused}
 use Rattle.star_rating.specs.Stars.{finiteAsked}
 use Rattle.star_rating.specs.declared.Asked.{Asked}
 use Rattle.calls.specs.Tables.{entriesOf}
-use Rattle.calls.specs.Conditions.{Scratch, lengths, scratchShort}
+use Rattle.calls.specs.Conditions.{Scratch, Lengths, lengths, scratchShort}
 use Rattle.calls.specs.Calls.{cleared}
 use Rattle.pack_order.specs.Listing as Listing
 use Rattle.pack_order.specs.Listing.{mostCharts, keyWidth, chartAt, Inside, ranked, rankedBy}
 use Rattle.pack_order.specs.Laws.{ranked-rated}
-use Rattle.pack.specs.Pack.{keyOf, listedVerdict, Tables, tablesAfter, lent, rankAnswer, rankedLent, rankLeaves, listedCheck}
-use Rattle.pack.proofs.Checks.{lies, checks, each, too-many, not-many, accepted}
+use Rattle.pack.specs.Pack.{keyOf, listedVerdict, rankVerdict, Tables, tablesAfter, lent, rankAnswer, rankedLent, rankLeaves, listedCheck}
+use Rattle.pack.proofs.Checks.{lies, checks, each, not-many, accepted}
 
 pub four : (asked : Asked) (b : List ℕ) → length (keyOf asked b) ≡ keyWidth
 unfolding keyOf
@@ -33,21 +32,16 @@ unfolding cleared
 cleared-same x y e =
     λ i. record { aim = replicate (e i .aim) zero64; aimNoSliders = replicate (e i .aimNoSliders) zero64; speed = replicate (e i .speed) zero64; flashlight = replicate (e i .flashlight) zero64 }
 
+-- ---- The answer
+
+module _ (asked : Asked) (r v : ℕ) (l : Lengths) (pack list : List ℕ) where
+  pub checked : length list ≤ mostCharts → {entries : ℕ} {short finite : Bool} {w : Verdict}
+      → entries ≡ entriesOf r v → short ≡ scratchShort l → finite ≡ finiteAsked asked
+      → w ≡ firstOf (map (listedCheck entries short finite pack) list) → w ≡ rankVerdict asked r v l pack list
+  checked h e s f w =
+      w ∙ ((λ i. firstOf (map (listedCheck (e i) (s i) (f i) pack) list)) ∙ (ap firstOf (checks asked r v l pack list) ∙ not-many asked r v l pack list h))
+
 module _ (asked : Asked) (pack list : List ℕ) (t : Tables) (x : Scratch) where
-  -- ---- The answer
-  pub refused-many : mostCharts < length list → Refused Place ≡ rankAnswer asked pack (lent list t x)
-  unfolding rankAnswer
-  refused-many h = too-many asked (length (t .records)) (length (t .values)) (lengths x) pack list h
-
-  pub checked : length list ≤ mostCharts → {entries : ℕ} {short finite : Bool} {v : Verdict}
-      → entries ≡ entriesOf (length (t .records)) (length (t .values)) → short ≡ scratchShort (lengths x) → finite ≡ finiteAsked asked
-      → v ≡ firstOf (map (listedCheck entries short finite pack) list) → v ≡ rankAnswer asked pack (lent list t x)
-  unfolding rankAnswer
-  checked h e s f v =
-      v ∙ ((λ i. firstOf (map (listedCheck (e i) (s i) (f i) pack) list))
-      ∙ (ap firstOf (checks asked (length (t .records)) (length (t .values)) (lengths x) pack list)
-      ∙ not-many asked (length (t .records)) (length (t .values)) (lengths x) pack list h))
-
   -- ---- What is left
   pub refused-leaves : {q : Refusal} → Refused q ≡ rankAnswer asked pack (lent list t x) → lent list t x ≡ rankLeaves asked pack (lent list t x)
   unfolding rankLeaves ifAccepted

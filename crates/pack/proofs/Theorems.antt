@@ -1,5 +1,5 @@
 -- Order 13: every claim of `Statement`. Assumes nothing.
-use Prim.Native.Nat.{ℕ, _*_, _≤_}
+use Prim.Native.Nat.{ℕ, _*_, _≤_, _<_}
 use mathlib.Core.Path.{_≡_, refl, sym, ap, _∙_}
 use mathlib.Core.Bool.{Bool, true, false, not, true≢false}
 use mathlib.Core.List.{List, [], _∷_, _++_}
@@ -9,7 +9,7 @@ use lib.Ieee.{Float, nan, inf, fin, isNan}
 use lib.ListN.{length}
 use Rattle.chart_opening.specs.Header.{settingsOf}
 use Rattle.chart_opening.specs.Conditions.{refuseIf, firstOf, ifAccepted}
-use Rattle.chart_opening.specs.declared.Refusal.the-variants.{Header}
+use Rattle.chart_opening.specs.declared.Refusal.the-variants.{Header, Place}
 use Rattle.chart_opening.specs.declared.Verdict.{Verdict}
 use Rattle.chart_opening.specs.declared.Verdict.the-variants.{Accepted, Refused}
 use Rattle.star_rating.specs.Stars.{ratingsOf}
@@ -24,12 +24,12 @@ use Rattle.pack_order.specs.declared.Ordering.the-variants.{Less}
 use Rattle.pack_order.specs.Compare.{lower, compareNumber}
 use Rattle.pack_order.specs.Laws.{chart-compares, chart-exact, chart-ties, chart-total, higher-first, lower-first, ranked-count, ranked-ordered, ranked-only, ranked-joined}
 use Rattle.pack_order.specs.Sort.{All}
-use Rattle.pack_order.specs.Listing.{Inside, isInside, chartAt}
+use Rattle.pack_order.specs.Listing.{mostCharts, Inside, isInside, chartAt}
 use Rattle.pack_order.proofs.Lies.{is-inside}
 use Rattle.pack.specs.Pack.{freshTotals, keyOf, chartVerdict, listedVerdict, rankVerdict, Tables, tables, tablesOf, openedInto, tablesAfter, Lent, lent, rankAnswer, rankedLent, rankLeaves}
 use Rattle.pack.specs.Statement.{Ordered, Numbers, Listed, openAll, Answered, Parts, Claims, listingOf}
-use Rattle.pack.proofs.Checks.{rateable, lies, stops}
-use Rattle.pack.proofs.Lists.{refused-many, refused-leaves, carried-leaves, all-pass}
+use Rattle.pack.proofs.Checks.{rateable, lies, stops, too-many}
+use Rattle.pack.proofs.Lists.{refused-leaves, carried-leaves, all-pass}
 use Rattle.pack.proofs.Joined.{to-all, first-part, second-part, joined-parts, first-stops}
 
 -- ---- The order
@@ -124,9 +124,13 @@ module _ (asked : Asked) (pack : List ℕ) (x : Lent) where
   unfolding rankAnswer rankVerdict firstOf
   none-tried e = ap (rankVerdict asked (length (x .tables .records)) (length (x .tables .values)) (lengths (x .scratch)) pack) e
 
+  many : mostCharts < length (x .list) → rankAnswer asked pack x ≡ Refused Place
+  unfolding rankAnswer
+  many h = sym (too-many asked (length (x .tables .records)) (length (x .tables .values)) (lengths (x .scratch)) pack (x .list) h)
+
   answered : Answered asked pack x
   answered = record {
-    too-many = λ h. sym (refused-many asked pack (x .list) (x .tables) (x .scratch) h);
+    too-many = many;
     refused = λ q e. sym (refused-leaves asked pack (x .list) (x .tables) (x .scratch) (sym e));
     carried = carried;
     empty = none-tried;

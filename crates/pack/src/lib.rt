@@ -14,8 +14,8 @@ ghost use Rattle.calls.specs.Conditions.{lengths, scratchShort, opening};
 ghost use Rattle.calls.specs.Calls.{cleared};
 ghost use Rattle.figures.specs.Answers.{Sums, scratchOf};
 ghost use Rattle.pack_order.specs.Listing.{chartAt, ranked, mostCharts, keyWidth};
-ghost use Rattle.pack.specs.Pack.{keyRow, keyFrom, keyOf, chartVerdict, listedVerdict, tables, openedInto, tablesAfter, lent, rankAnswer, rankedLent};
-ghost use Rattle.pack.specs.Pack.{rankLeaves, chartCheck, listedCheck};
+ghost use Rattle.pack.specs.Pack.{keyRow, keyFrom, keyOf, chartVerdict, listedVerdict, rankVerdict, tables, openedInto, tablesAfter, lent, rankAnswer};
+ghost use Rattle.pack.specs.Pack.{rankedLent, rankLeaves, chartCheck, listedCheck};
 use chart_opening::Refusal;
 use chart_opening::Verdict;
 use skills::Skills;
@@ -297,6 +297,31 @@ fn list_all(
     clear_all(aim, aim_no_sliders, speed, flashlight);
 }
 
+// Whether a list of offsets into a pack would be ranked with tables and scratch of these lengths; nothing is written.
+pub fn check(
+    pack: &[u8],
+    list: &[usize],
+    asked: Asked,
+    records: usize,
+    values: usize,
+    aim: usize,
+    aim_no_sliders: usize,
+    speed: usize,
+    flashlight: usize,
+) -> Verdict
+    ensures answer { λ r. ⌜ r ≡ rankVerdict asked records values
+        (record { aim = aim; aimNoSliders = «aim_no_sliders»; speed = speed; flashlight = flashlight }) (now (pack .entry)) (now (list .entry)) ⌝ }
+    ensures pack { λ _. ⌜ now (pack .exit) ≡ now (pack .entry) ⌝ }
+    ensures list { λ _. ⌜ now (list .exit) ≡ now (list .entry) ⌝ }
+{
+    if MOST_CHARTS < list.len() {
+        return Verdict::Refused(Refusal::Place);
+    }
+    let entries = entries_in(records, values);
+    let short = scratch_short(aim, aim_no_sliders, speed, flashlight);
+    check_all(pack, list, entries, short, asked.is_finite())
+}
+
 // Two lists of offsets that lie one behind the other, the first of them `first` long, whether or not they were ranked: the listing of both as one.
 pub fn join(
     pack: &[u8],
@@ -318,18 +343,17 @@ pub fn join(
         (scratchOf (now (aim .entry)) (now («aim_no_sliders» .entry)) (now (speed .entry)) (now (flashlight .entry)))) ⌝ }
     ensures pack { λ _. ⌜ now (pack .exit) ≡ now (pack .entry) ⌝ }
 {
-    if MOST_CHARTS < list.len() {
-        return Verdict::Refused(Refusal::Place);
-    }
-    let entries = entries_in(records.len(), values.len());
-    let short = scratch_short(
+    match check(
+        pack,
+        list,
+        asked,
+        records.len(),
+        values.len(),
         aim.len(),
         aim_no_sliders.len(),
         speed.len(),
         flashlight.len(),
-    );
-    let finite = asked.is_finite();
-    match check_all(pack, list, entries, short, finite) {
+    ) {
         Verdict::Refused(r) => Verdict::Refused(r),
         Verdict::Accepted => {
             list_all(
