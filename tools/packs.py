@@ -8,8 +8,8 @@ TOOLS is the folder of the oracle's scripts, BUILD that of its programs; the var
 reads and writes as it does (crates/test_packs/src/main.rt).
 
 Packs and requests are those of the oracle's mkpacks.py: charts with bytes between them, some twice, some with an entry more that no slider uses, some that don't
-open, some past the end; lists of none, of one offset often and of 255 to 300. Behind them come packs made here, with stars that tie and totals that don't, zeros
-of both signs and NaN stars, with charts that lie in one another, with lists of 0, 1, 2, 256 and 257 offsets, and with each way in which a chart is refused at
+open, some past the end; lists of none, of one offset often and of 255 to 300. Behind them come packs made here, with stars that all tie, as 0 or as
+NaN, and totals that do not, with charts that lie in one another, with lists of 0, 1, 2, 256 and 257 offsets, and with each way in which a chart is refused at
 every position of a list. Floats are compared by their bits.
 
 The last line is `N equal, M different`; the status is 0 if M is 0 and N isn't.
@@ -29,7 +29,7 @@ import compare
 LARGE = "256 256 / 8192 8192 8192 8192"
 RECORD_WIDTH, VALUE_WIDTH = 16, 5
 NUMBERS = "0 4022000000000000 4020000000000000 %016X - -"
-BASES = [0x3FF23D70A3D70A3D, 0, 1 << 63, 0xBFF0000000000000]  # 1.14; stars all 0, of both signs; below 0
+BASES = [0x3FF23D70A3D70A3D, 0, 1 << 63, 0xBFF0000000000000]  # 1.14; 0 of both signs, for which all stars are 0; -1, for which all are NaN
 
 
 def ask(word, base, lent, offsets):
@@ -50,14 +50,19 @@ def within(mk, rng, inner):
     return bytes(b), at
 
 
-def bad(rng, b):
-    """The ways in which a chart is refused, each with a name."""
+def bad(b):
+    """A chart made so that it is refused, in each way that opening has."""
     b = bytearray(b)
     n, = struct.unpack_from("<I", b)
     for where, new in ((28, b"\2"), (76, b"\4"), (24, struct.pack("<I", 1 << 31)), (24, bytes(4)), (40, bytes(8)), (80 + 32, b"\7"), (80, struct.pack("<d", -1.0))):
         c = b.copy()
         c[where:where + len(new)] = new
         yield bytes(c)
+    start, = struct.unpack_from("<d", b, 80)
+    c = b.copy()  # a slider whose nested entry is past the table
+    struct.pack_into("<2d", c, 80, start, start + 10)
+    struct.pack_into("<6I", c, 80 + 32, 1, 1, 9, 1, 0, 1)
+    yield bytes(c)
     if n > 2:  # falls, too long
         for k, t in ((1, 0.0), (n - 1, 1e7)):
             c = b.copy()
@@ -95,7 +100,7 @@ def made(mk, seed):
     lines.append(ask("rank", BASES[0], "0 0 / 8192 8192 8192 8192", [offsets[0], offsets[1]]))
     yield data, lines
     # a refused chart at every position of a list
-    for b in bad(rng, charts[4]):
+    for b in bad(charts[4]):
         blocks = charts[:6]
         data = b"".join(blocks) + b
         offsets = [sum(map(len, blocks[:i])) for i in range(6)]
