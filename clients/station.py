@@ -13,6 +13,7 @@ from ctypes import c_double, c_size_t, c_uint8, c_uint32, c_uint64, c_void_p
 OBJECT, STATED_OBJECT, MOST = 56, 64, 16384  # bytes of an object without a stated length and with one; objects of a chart at most
 RECORD, VALUES, AIM, RHYTHM, TOTALS, COUNTS, RATINGS = 16, 5, 18, 2, 4, 7, 4  # numbers of each answer
 SCRATCH = 8192
+LISTED = 256  # offsets of a list into a pack at most
 
 # Bits of the word of mods that comes with a call for ratings.
 AUTOPILOT, RELAX, TOUCH_DEVICE, HIDDEN, FLASHLIGHT, TRACEABLE, FADE_ONLY = (1 << i for i in range(7))
@@ -61,6 +62,8 @@ class Library:
         "totals_to": OPENED + (c_size_t,) + FOUR + SLICE,
         "totals_while_playing": OPENED + SLICE + FOUR,
         "ratings": OPENED + (c_uint32, c_uint32) + SLICE + FOUR + SLICE,
+        "rank": OPENED + (c_uint32, c_uint32) + SLICE * 3 + FOUR,
+        "join": OPENED + (c_size_t, c_uint32, c_uint32) + SLICE * 3 + FOUR,
     }
     DEFAULT = c_void_p(-1)  # FE_DFL_ENV
 
@@ -182,3 +185,14 @@ class Chart:
         given = (attraction_strength is not None) | (start_scale is not None) << 1
         numbers = (c_double * 5)(approach_rate, overall_difficulty, base_multiplier, attraction_strength or 0, start_scale or 0)
         return self._numbers(RATINGS, "ratings", self._chart, self._values, mods, given, numbers, *self._scratch)
+
+
+def rank(library, pack, offsets, mods, numbers, given=0, first=0):
+    """The offsets of charts in a pack put in order, the higher chart first, or a Refusal; `numbers` are the five that come with ratings. The first `first` offsets and
+    the others may be listings already."""
+    entries = max((min(_count(pack[o:o + 4]), MOST) for o in offsets), default=0)
+    listed = (c_uint64 * len(offsets))(*offsets)
+    tables = (c_double * (RECORD * entries))(), (c_double * (VALUES * entries))()
+    code = library.answer("join", (c_uint8 * len(pack)).from_buffer_copy(pack), listed, first, mods, given, (c_double * 5)(*numbers), *tables,
+                          *((c_double * SCRATCH)() for _ in range(4)))
+    return Refusal(code) if code else list(listed)

@@ -58,6 +58,10 @@ mod library {
             c: *const u8, cl: usize, v: *const f64, vl: usize, mods: u32, given: u32, numbers: *const f64, bl: usize, aim: *mut f64, al: usize, still: *mut f64, nl: usize,
             speed: *mut f64, sl: usize, light: *mut f64, ll: usize, out: *mut f64, ol: usize,
         ) -> u64;
+        pub fn difficulty_join(
+            p: *const u8, pl: usize, list: *mut u64, tl: usize, first: usize, mods: u32, given: u32, numbers: *const f64, bl: usize, r: *mut f64, rl: usize,
+            v: *mut f64, vl: usize, aim: *mut f64, al: usize, still: *mut f64, nl: usize, speed: *mut f64, sl: usize, light: *mut f64, ll: usize,
+        ) -> u64;
     }
 }
 
@@ -212,6 +216,18 @@ pub fn ratings(chart: &[u8], values: &[f64], mods: u32, given: u32, numbers: &[f
         library::difficulty_ratings(
             chart.as_ptr(), chart.len(), values.as_ptr(), values.len(), mods, given, numbers.as_ptr(), numbers.len(), aim.as_mut_ptr(), aim.len(), still.as_mut_ptr(), still.len(),
             speed.as_mut_ptr(), speed.len(), light.as_mut_ptr(), light.len(), out.as_mut_ptr(), out.len(),
+        )
+    })
+}
+
+/// Puts a list of offsets into a pack in order, the higher chart first. The first `first` of them and the others may be listings already.
+#[allow(clippy::too_many_arguments)]
+pub fn join(pack: &[u8], list: &mut [u64], first: usize, mods: u32, given: u32, numbers: &[f64], records: &mut [f64], values: &mut [f64], scratch: [&mut [f64]; 4]) -> Answer {
+    let [aim, still, speed, light] = scratch;
+    answer(unsafe {
+        library::difficulty_join(
+            pack.as_ptr(), pack.len(), list.as_mut_ptr(), list.len(), first, mods, given, numbers.as_ptr(), numbers.len(), records.as_mut_ptr(), records.len(),
+            values.as_mut_ptr(), values.len(), aim.as_mut_ptr(), aim.len(), still.as_mut_ptr(), still.len(), speed.as_mut_ptr(), speed.len(), light.as_mut_ptr(), light.len(),
         )
     })
 }
