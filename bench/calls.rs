@@ -1,7 +1,7 @@
 //! Microseconds of each call on charts of several sizes, lower quartile of the runs. Insertions and removals stand beside what it takes to move as many bytes of
 //! the chart and rows of the tables by the standard library's functions; the totals while playing, counts and ratings beside the totals. Where a folder with the oracle's programs is named as the argument, their
-//! times on the same charts stand beside: `source` works out the records and the four skills' totals, as opening and totals do. The oracle's are
-//! the best of its runs by the wall's clock: on a busy machine they are too high for the large charts.
+//! times on the same charts stand beside: `source` works out the records and the four skills' totals, as opening and totals do. There ours and both of the oracle's programs take turns; each
+//! turn has its best run by the wall's clock, and the lower quartile of the turns is told, with the spread of the turns.
 mod charts;
 mod clock;
 #[path = "../clients/station.rs"]
@@ -10,6 +10,7 @@ use charts::{chart, put};
 use clock::{quartile, quartiles, timed};
 use station::{mods, COUNTS, OBJECT, RATINGS, RECORD, SCRATCH, TOTALS, VALUES};
 use std::process::Command;
+use std::time::Instant;
 
 const SIZES: [usize; 4] = [100, 1000, 4000, 16384];
 
@@ -86,6 +87,9 @@ impl Station {
     }
 }
 
+/// How often ours and the oracle's programs take turns.
+const TURNS: usize = 5;
+
 /// Microseconds of the oracle's `source`, best of its runs.
 fn oracle(folder: &str, program: &str, chart: &str) -> f64 {
     let told = Command::new(format!("{folder}/{program}")).args(["bench", chart]).output().expect("the oracle runs");
@@ -93,6 +97,42 @@ fn oracle(folder: &str, program: &str, chart: &str) -> f64 {
     let line = told.lines().find(|l| l.starts_with("source")).expect("its line `source`");
     let seconds = line.split("best ").nth(1).and_then(|rest| rest.split(',').next()).expect("the best of its runs");
     seconds.parse::<f64>().unwrap() * 1e6
+}
+
+/// Microseconds of an opening with its totals, best of the runs that two seconds have room for, as the oracle's.
+fn ours(s: &mut Station) -> f64 {
+    let (whole, mut best) = (Instant::now(), f64::INFINITY);
+    while whole.elapsed().as_secs_f64() < 2.0 {
+        let start = Instant::now();
+        s.open();
+        s.totals();
+        best = best.min(start.elapsed().as_secs_f64() * 1e6);
+    }
+    best
+}
+
+/// The lower quartile of the turns, and how much more the slowest took than the fastest.
+fn of_turns(mut turns: Vec<f64>) -> (f64, f64) {
+    turns.sort_by(f64::total_cmp);
+    (turns[turns.len() / 4], turns[turns.len() - 1] / turns[0] - 1.0)
+}
+
+/// The line of an opening with its totals, beside the oracle's.
+fn beside(folder: &str, s: &mut Station) -> String {
+    let name = format!("target/bench-{}.chart", s.n);
+    std::fs::write(&name, &s.chart).unwrap();
+    let mut turns = [vec![], vec![], vec![]];
+    for _ in 0..TURNS {
+        turns[0].push(ours(s));
+        turns[1].push(oracle(folder, "oracle", &name));
+        turns[2].push(oracle(folder, "oracle-native", &name));
+    }
+    let [(us, a), (bound, b), (native, c)] = turns.map(of_turns);
+    let percent = |x: f64| format!("{:.0}%", x * 100.0);
+    format!(
+        "{:>6} {us:>12.1} {:>8.3} {bound:>12.1} {:>8.2} {native:>12.1} {:>8.2} {:>6} {:>6} {:>6}",
+        s.n, us / s.n as f64, us / bound, us / native, percent(a), percent(b), percent(c)
+    )
 }
 
 /// The line of insertions and removals, beside an opening and replacements at the same places.
@@ -122,8 +162,8 @@ fn figures_of(s: &mut Station, totals: f64) -> String {
 fn main() {
     let folder = std::env::args().nth(1);
     println!("microseconds of processor time, lower quartile of the runs");
-    println!("{:>6} {:>10} {:>8} {:>10} {:>10} {:>10} {:>9} {:>8} {:>8}", "N", "open", "per N", "replace 0", "at N/2", "at N-1", "readings", "totals", "open/rep");
-    let (mut both, mut edits, mut figures) = (vec![], vec![], vec![]);
+    println!("{:>6} {:>10} {:>8} {:>10} {:>10} {:>10} {:>9} {:>8} {:>8} {:>8}", "N", "open", "per N", "replace 0", "at N/2", "at N-1", "readings", "totals", "per N", "open/rep");
+    let (mut stations, mut edits, mut figures) = (vec![], vec![], vec![]);
     for n in SIZES {
         let mut s = Station::new(n);
         let open = quartile(|_| s.open());
@@ -132,12 +172,12 @@ fn main() {
         let totals = quartile(|_| s.totals());
         let slowest = replace.into_iter().fold(0.0, f64::max);
         println!(
-            "{n:>6} {open:>10.1} {:>8.3} {:>10.1} {:>10.1} {:>10.1} {read:>9.3} {totals:>8.1} {:>8.1}",
-            open / n as f64, replace[0], replace[1], replace[2], open / slowest
+            "{n:>6} {open:>10.1} {:>8.3} {:>10.1} {:>10.1} {:>10.1} {read:>9.3} {totals:>8.1} {:>8.3} {:>8.1}",
+            open / n as f64, replace[0], replace[1], replace[2], totals / n as f64, open / slowest
         );
         figures.push(figures_of(&mut s, totals));
         edits.push(edits_of(&mut s, open, replace));
-        both.push((s, open + totals));
+        stations.push(s);
     }
     println!("each at 0, N/2 and N-1; an edit over a replacement at its place and the moves: the largest");
     println!("{:>6} {:>28} {:>28} {:>28} {:>10} {:>9}", "N", "insert", "remove", "moves", "over", "open/edit");
@@ -149,16 +189,9 @@ fn main() {
         println!("no folder with the oracle's programs was named: no comparison");
         return;
     };
-    println!("{:>6} {:>12} {:>12} {:>8} {:>12} {:>8}", "N", "open+totals", "oracle", "ratio", "native", "ratio");
-    for (s, first) in &mut both {
-        let name = format!("target/bench-{}.chart", s.n);
-        std::fs::write(&name, &s.chart).unwrap();
-        let (bound, native) = (oracle(&folder, "oracle", &name), oracle(&folder, "oracle-native", &name));
-        let again = quartile(|_| {
-            s.open();
-            s.totals();
-        });
-        let ours = first.min(again);
-        println!("{:>6} {ours:>12.1} {bound:>12.1} {:>8.2} {native:>12.1} {:>8.2}", s.n, ours / bound, ours / native);
+    println!("an opening with its totals beside the oracle: lower quartile of {TURNS} turns of each, the best run of each turn; and the spread of the turns of each");
+    println!("{:>6} {:>12} {:>8} {:>12} {:>8} {:>12} {:>8} {:>20}", "N", "open+totals", "per N", "bound", "ratio", "native", "ratio", "spread");
+    for s in &mut stations {
+        println!("{}", beside(&folder, s));
     }
 }

@@ -1,5 +1,5 @@
-//! Nanoseconds per call of the proved functions on numbers, beside plain Rust by the same rules. Both sides alternate in one process;
-//! each figure is the lower quartile over rounds. Every pair of answers is compared first.
+//! Nanoseconds per call of the proved functions on numbers, beside plain Rust by the same rules ("bound") and the standard library's functions ("native"), whose
+//! results may differ. The three alternate in one process; each figure is the lower quartile over rounds. The answers are compared with the bound ones first.
 mod plain;
 use std::hint::black_box;
 use std::time::Instant;
@@ -47,16 +47,17 @@ fn time(run: &mut dyn FnMut()) -> f64 {
     start.elapsed().as_nanos() as f64 / CALLS as f64
 }
 
-/// Compares the answers over the arguments, then times both sides.
-fn measure<A: Copy>(name: &str, args: &[A], ours: impl Fn(A) -> u64, theirs: impl Fn(A) -> u64) {
-    let differ = args.iter().filter(|&&a| ours(a) != theirs(a)).count();
-    let (mut us, mut them) = (vec![], vec![]);
+/// Compares the answers over the arguments, then times the three.
+fn measure<A: Copy>(name: &str, args: &[A], ours: impl Fn(A) -> u64, bound: impl Fn(A) -> u64, native: impl Fn(A) -> u64) {
+    let differ = args.iter().filter(|&&a| ours(a) != bound(a)).count();
+    let mut times = [vec![], vec![], vec![]];
     for _ in 0..61 {
-        us.push(time(&mut || args.iter().take(CALLS).for_each(|&a| { black_box(ours(black_box(a))); })));
-        them.push(time(&mut || args.iter().take(CALLS).for_each(|&a| { black_box(theirs(black_box(a))); })));
+        times[0].push(time(&mut || args.iter().take(CALLS).for_each(|&a| { black_box(ours(black_box(a))); })));
+        times[1].push(time(&mut || args.iter().take(CALLS).for_each(|&a| { black_box(bound(black_box(a))); })));
+        times[2].push(time(&mut || args.iter().take(CALLS).for_each(|&a| { black_box(native(black_box(a))); })));
     }
-    let (us, them) = (quartile(us), quartile(them));
-    println!("{name:<12} {us:>9.1} {them:>9.1} {:>7.2} {differ:>9}", us / them);
+    let [us, bound, native] = times.map(quartile);
+    println!("{name:<12} {us:>9.1} {bound:>9.1} {:>7.2} {native:>9.1} {:>7.2} {differ:>9}", us / bound, us / native);
 }
 
 fn main() {
@@ -68,19 +69,21 @@ fn main() {
     let exponents: Vec<f64> = (0..n).map(|_| r.between(-20.0, 20.0)).collect();
     let singles: Vec<f32> = positive.iter().map(|&x| x as f32).collect();
     let directions: Vec<(f64, f64)> = (0..n).map(|_| (r.between(-1e5, 1e5), r.between(-1e5, 1e5))).collect();
-    println!("{:<12} {:>9} {:>9} {:>7} {:>9}   (ns per call)", "", "proved", "Rust", "ratio", "different");
+    println!("{:<12} {:>9} {:>9} {:>7} {:>9} {:>7} {:>9}   (ns per call)", "", "proved", "bound", "ratio", "native", "ratio", "different");
+    let two_40 = (1u64 << 40) as f64;
     unsafe {
-        measure("log10", &positive, |b| rattle_log10(b).to_bits(), |b| plain::log10(b).to_bits());
-        measure("two", &exponents, |x| rattle_two(x * 1e12).to_bits(), |x| table.two(x * 1e12).to_bits());
-        measure("power", &powers, |(b, e)| rattle_power(b, e).to_bits(), |(b, e)| table.power(b, e).to_bits());
-        measure("exp", &exponents, |x| rattle_exp(x).to_bits(), |x| table.exp(x).to_bits());
-        measure("root64", &positive, |x| rattle_root64(x).to_bits(), |x| plain::root64(x).to_bits());
-        measure("root32", &singles, |x| rattle_root32(x).to_bits() as u64, |x| plain::root32(x).to_bits() as u64);
-        measure("angle", &directions, |(x, y)| rattle_angle(x, y).to_bits(), |(x, y)| plain::angle(x, y).to_bits());
-        measure("f64 to f32", &positive, |x| rattle_f64_to_f32(x).to_bits() as u64, |x| (x as f32).to_bits() as u64);
-        measure("trunc", &positive, |x| rattle_trunc(x).to_bits(), |x| x.trunc().to_bits());
-        measure("floor", &positive, |x| rattle_floor(x).to_bits(), |x| x.floor().to_bits());
-        measure("ceil", &positive, |x| rattle_ceil(x).to_bits(), |x| x.ceil().to_bits());
-        measure("to i32", &positive, |x| rattle_to_i32(x) as u64, |x| x as i32 as u64);
+        measure("log10", &positive, |b| rattle_log10(b).to_bits(), |b| plain::log10(b).to_bits(), |b| b.log10().to_bits());
+        measure("two", &exponents, |x| rattle_two(x * 1e12).to_bits(), |x| table.two(x * 1e12).to_bits(), |x| (x * 1e12 / two_40).exp2().to_bits());
+        measure("power", &powers, |(b, e)| rattle_power(b, e).to_bits(), |(b, e)| table.power(b, e).to_bits(), |(b, e)| b.powf(e).to_bits());
+        measure("power of 0.15", &exponents, |e| rattle_power(0.15, e).to_bits(), |e| table.power(0.15, e).to_bits(), |e| 0.15f64.powf(e).to_bits());
+        measure("exp", &exponents, |x| rattle_exp(x).to_bits(), |x| table.exp(x).to_bits(), |x| x.exp().to_bits());
+        measure("root64", &positive, |x| rattle_root64(x).to_bits(), |x| plain::root64(x).to_bits(), |x| x.sqrt().to_bits());
+        measure("root32", &singles, |x| rattle_root32(x).to_bits() as u64, |x| plain::root32(x).to_bits() as u64, |x| x.sqrt().to_bits() as u64);
+        measure("angle", &directions, |(x, y)| rattle_angle(x, y).to_bits(), |(x, y)| plain::angle(x, y).to_bits(), |(x, y)| y.abs().atan2(x).to_bits());
+        measure("f64 to f32", &positive, |x| rattle_f64_to_f32(x).to_bits() as u64, |x| (x as f32).to_bits() as u64, |x| (x as f32).to_bits() as u64);
+        measure("trunc", &positive, |x| rattle_trunc(x).to_bits(), |x| x.trunc().to_bits(), |x| x.trunc().to_bits());
+        measure("floor", &positive, |x| rattle_floor(x).to_bits(), |x| x.floor().to_bits(), |x| x.floor().to_bits());
+        measure("ceil", &positive, |x| rattle_ceil(x).to_bits(), |x| x.ceil().to_bits(), |x| x.ceil().to_bits());
+        measure("to i32", &positive, |x| rattle_to_i32(x) as u64, |x| x as i32 as u64, |x| x as i32 as u64);
     }
 }

@@ -39,6 +39,12 @@ export interface RatingNumbers {
     startScale?: number;
 }
 
+/** A part of the memory: its address, and its number of elements. */
+export interface Slice {
+    at: number;
+    length: number;
+}
+
 /** Bytes of an object of this chart, by its word at 28. */
 export declare function objectSize(bytes: Uint8Array): 56 | 64;
 
@@ -85,6 +91,16 @@ export declare class Chart {
     get settings(): Uint8Array;
     /** The bytes of the object at a place, copied. */
     object(place: number): Uint8Array;
+
+    /** For a class that stands on this one: what the calls are lent, a new slice, its bytes, whether there is a call, a call by its name, numbers that it answers, numbers read, bytes lent. */
+    get slices(): { chart: Slice; records: Slice; values: Slice; scratch: Slice[]; list: Slice; numbers: Slice };
+    claim(length: number, size: number): Slice;
+    memory(slice: Slice): Uint8Array;
+    has(name: string): boolean;
+    carry(name: string, ...given: (Slice | bigint | number)[]): Refusal | null;
+    numbersOf(count: number, name: string, ...given: (Slice | bigint | number)[]): Float64Array | Refusal;
+    read(slice: Slice, count: number): Float64Array;
+    lend(bytes: Uint8Array): Slice;
 
     /** Null where they are carried out. They are for both players where the second is given; else the second player's tables fall behind the chart. */
     replace(place: number, object: Uint8Array, second?: Second): Refusal | null;

@@ -100,6 +100,11 @@ class Memory {
         const code = this.call[`difficulty_${name}`](...words);
         return code === 0n ? null : new Refusal(code);
     }
+
+    // The first numbers of the output, or the refusal.
+    numbersOf(count, name, ...given) {
+        return this.carry(name, ...given, { at: this.out.at, length: count }) ?? this.read(this.out, count);
+    }
 }
 
 let memoryOf, lentOf, tablesOf; // what a player is made of, for the classes of this module
@@ -130,10 +135,8 @@ class Player {
         return this.#memory.carry(name + this.#suffix, ...this.#lent, ...given);
     }
 
-    // The first numbers of the output, or the refusal.
     #numbersOf(count, name, ...given) {
-        const { out } = this.#memory;
-        return this.#carry(name, ...given, { at: out.at, length: count }) ?? this.#memory.read(out, count);
+        return this.#memory.numbersOf(count, name + this.#suffix, ...this.#lent, ...given);
     }
 
     /** How many objects the chart has, by its header. */
@@ -209,11 +212,52 @@ export class Chart extends Player {
     }
 
     get settings() {
-        return this.bytes.slice(32, 32 + SETTINGS);
+        return this.memory(this.slices.chart).slice(32, 32 + SETTINGS);
     }
 
     object(place) {
-        return this.bytes.slice(80 + this.objectSize * place, 80 + this.objectSize * (place + 1));
+        return this.memory(this.slices.chart).slice(80 + this.objectSize * place, 80 + this.objectSize * (place + 1));
+    }
+
+    // For a class that stands on this one, with calls or slices of its own (station/library.mjs).
+
+    /** What the calls are lent: a slice as its address and its number of elements. */
+    get slices() {
+        const { chart, scratch, list, numbers } = memoryOf(this), [records, values] = tablesOf(this);
+        return { chart, records, values, scratch, list, numbers };
+    }
+
+    /** A new slice of so many elements, of so many bytes each. */
+    claim(length, size) {
+        return memoryOf(this).claim(length, size);
+    }
+
+    /** The bytes of a slice of bytes, until the memory grows. */
+    memory(slice) {
+        return memoryOf(this).bytes(slice);
+    }
+
+    /** Whether the library has a call of this name. */
+    has(name) {
+        return `difficulty_${name}` in memoryOf(this).call;
+    }
+
+    /** A call by its name: null where it is carried out, else a Refusal; with a count so many numbers of its output, which is lent last. */
+    carry(name, ...given) {
+        return memoryOf(this).carry(name, ...given);
+    }
+
+    numbersOf(count, name, ...given) {
+        return memoryOf(this).numbersOf(count, name, ...given);
+    }
+
+    /** Numbers of a slice of them, copied; bytes lent behind all else, until the next are. */
+    read(slice, count) {
+        return memoryOf(this).read(slice, count);
+    }
+
+    lend(bytes) {
+        return memoryOf(this).lent(bytes);
     }
 
     // An edit for both players where there is a second.

@@ -14,6 +14,7 @@ OBJECT, STATED_OBJECT, MOST = 56, 64, 16384  # bytes of an object without a stat
 SETTINGS = 48  # bytes of a player's settings; the first player's are those of the header, from byte 32 on
 RECORD, VALUES, AIM, RHYTHM, TOTALS, COUNTS, RATINGS = 16, 5, 18, 2, 4, 7, 4  # numbers of each answer
 SCRATCH = 8192
+LISTED = 256  # offsets of a list into a pack at most
 
 # Bits of the word of mods that comes with a call for ratings.
 AUTOPILOT, RELAX, TOUCH_DEVICE, HIDDEN, FLASHLIGHT, TRACEABLE, FADE_ONLY = (1 << i for i in range(7))
@@ -62,8 +63,10 @@ class Library:
         "totals_to": OPENED + (c_size_t,) + FOUR + SLICE,
         "totals_while_playing": OPENED + SLICE + FOUR,
         "ratings": OPENED + (c_uint32, c_uint32) + SLICE + FOUR + SLICE,
+        "rank": OPENED + (c_uint32, c_uint32) + SLICE * 3 + FOUR,
+        "join": OPENED + (c_size_t, c_uint32, c_uint32) + SLICE * 3 + FOUR,
     }
-    EDITS = ("replace", "insert", "remove")  # for both players they take the second player's tables too
+    EDITS, PACKS = ("replace", "insert", "remove"), ("rank", "join")  # edits for both players take the second player's tables too; packs have one player
     DEFAULT = c_void_p(-1)  # FE_DFL_ENV
 
     def __init__(self, name):
@@ -72,11 +75,16 @@ class Library:
         self._get.argtypes = self._set.argtypes = (c_void_p,)
         self._calls = {}
         for call, takes in self.TAKES.items():
-            edit, second = call in self.EDITS, self.SLICE + self.SLICE + takes[2:]  # the settings come behind the chart
-            for name, given in ((call, takes), (call + "_both", second + self.SLICE * 2) if edit else (call + "_as", second)):
-                function = getattr(shared, "difficulty_" + name)
-                function.argtypes, function.restype = given, c_uint64
-                self._calls[name] = function
+            self._bind(shared, call, takes)
+            if call in self.EDITS:
+                self._bind(shared, call + "_both", self.SLICE + takes + self.SLICE * 2)
+            elif call not in self.PACKS:
+                self._bind(shared, call + "_as", self.SLICE + takes)  # settings are a slice behind the chart's
+
+    def _bind(self, shared, call, takes):
+        function = getattr(shared, "difficulty_" + call)
+        function.argtypes, function.restype = takes, c_uint64
+        self._calls[call] = function
 
     def answer(self, call, *given):
         """The library's answer; a slice is given as an array of ctypes, or as a pair of one and a length."""
@@ -227,3 +235,14 @@ class Second(Player):
     def settings(self, settings):
         """Other settings; the tables are then to be opened anew."""
         self._lent = self._lent[0], _slice(settings)
+
+
+def rank(library, pack, offsets, mods, numbers, given=0, first=0):
+    """The offsets of charts in a pack put in order, the higher chart first, or a Refusal; `numbers` are the five that come with ratings. The first `first` offsets and
+    the others may be listings already."""
+    entries = max((min(_count(pack[o:o + 4]), MOST) for o in offsets), default=0)
+    listed = (c_uint64 * len(offsets))(*offsets)
+    tables = (c_double * (RECORD * entries))(), (c_double * (VALUES * entries))()
+    code = library.answer("join", (c_uint8 * len(pack)).from_buffer_copy(pack), listed, first, mods, given, (c_double * 5)(*numbers), *tables,
+                          *((c_double * SCRATCH)() for _ in range(4)))
+    return Refusal(code) if code else list(listed)

@@ -1,4 +1,5 @@
-/* Chart difficulty for an editing station: thirteen calls on a chart and its two tables, and thirteen for a second player over the same chart.
+/* Chart difficulty for an editing station: thirteen calls on a chart and its two tables, thirteen for a second player over
+ * the same chart, and two on a pack of charts.
  *
  * Lent by the caller, kept by the caller: no call allocates, keeps a pointer after it has returned, prints, or stops the program.
  *   chart    a buffer whose first bytes are the chart (docs/FORMAT.md), as many as the chart's own length field says; N is its count of objects.
@@ -58,6 +59,7 @@ enum {
     DIFFICULTY_COUNTS = 7,          /* counts of a chart */
     DIFFICULTY_RATINGS = 4,         /* ratings of a chart, the stars among them */
     DIFFICULTY_NUMBERS = 5,         /* numbers that come with a call for ratings */
+    DIFFICULTY_LISTED = 256,        /* offsets of a list into a pack at most */
     DIFFICULTY_SCRATCH = 8192       /* numbers of scratch for each total */
 };
 
@@ -333,6 +335,36 @@ uint64_t difficulty_ratings_as(const uint8_t *chart, size_t chart_length, const 
                                double *speed, size_t speed_length,
                                double *flashlight, size_t flashlight_length,
                                double *out, size_t out_length);
+
+/* Puts a list of offsets into a pack in order, in its place. A pack is a buffer in which charts lie, anywhere; the chart at an offset has as many bytes as its
+ * length field says. The order: by stars, then the aim, speed and flashlight totals, then the length, then the bytes from the front as unsigned numbers, the
+ * higher chart first; a NaN is below every number, NaNs are alike, and so are both zeros. Charts of equal bytes stand by offset, the lower first. An offset may
+ * be listed more than once. Mods, given and numbers are those of difficulty_ratings, the same for all charts.
+ * Carried out, the tables stand as difficulty_open on the charts in the lent order leaves them, and all scratch is 0.
+ * Conditions: 8 where the list has more than DIFFICULTY_LISTED offsets. Then each chart in the list's order, and nothing is written before all are tried: 1 where
+ * it runs past the pack, 1 to 7 with both tables, scratch and numbers as lent, and 10. The first that meets one answers its number and place. With an empty
+ * list no chart is tried. */
+uint64_t difficulty_rank(const uint8_t *pack, size_t pack_length,
+                         uint64_t *list, size_t list_length,
+                         uint32_t mods, uint32_t given, const double *numbers, size_t numbers_length,
+                         double *records, size_t records_length,
+                         double *values, size_t values_length,
+                         double *aim, size_t aim_length,
+                         double *aim_no_sliders, size_t aim_no_sliders_length,
+                         double *speed, size_t speed_length,
+                         double *flashlight, size_t flashlight_length);
+
+/* The same for two lists that lie one behind the other, the first of them `first` long: they are put in order as one, whether or not they were ranked. Where
+ * both were, they are merged. A first above list_length counts as list_length. */
+uint64_t difficulty_join(const uint8_t *pack, size_t pack_length,
+                         uint64_t *list, size_t list_length, size_t first,
+                         uint32_t mods, uint32_t given, const double *numbers, size_t numbers_length,
+                         double *records, size_t records_length,
+                         double *values, size_t values_length,
+                         double *aim, size_t aim_length,
+                         double *aim_no_sliders, size_t aim_no_sliders_length,
+                         double *speed, size_t speed_length,
+                         double *flashlight, size_t flashlight_length);
 
 #ifdef __cplusplus
 }

@@ -315,4 +315,36 @@ DIFFICULTY_GUARDED difficulty_guarded_ratings_as(const uint8_t *chart, size_t ch
                                                          flashlight, flashlight_length, out, out_length));
 }
 
+DIFFICULTY_GUARDED difficulty_guarded_rank(const uint8_t *pack, size_t pack_length,
+                                           uint64_t *list, size_t list_length,
+                                           uint32_t mods, uint32_t given, const double *numbers, size_t numbers_length,
+                                           double *records, size_t records_length,
+                                           double *values, size_t values_length,
+                                           double *aim, size_t aim_length,
+                                           double *aim_no_sliders, size_t aim_no_sliders_length,
+                                           double *speed, size_t speed_length,
+                                           double *flashlight, size_t flashlight_length) {
+    fenv_t host;
+    difficulty_enter(&host);
+    return difficulty_leave(&host, difficulty_rank(pack, pack_length, list, list_length, mods, given, numbers, numbers_length, records, records_length,
+                                                   values, values_length, aim, aim_length, aim_no_sliders, aim_no_sliders_length, speed, speed_length,
+                                                   flashlight, flashlight_length));
+}
+
+DIFFICULTY_GUARDED difficulty_guarded_join(const uint8_t *pack, size_t pack_length,
+                                           uint64_t *list, size_t list_length, size_t first,
+                                           uint32_t mods, uint32_t given, const double *numbers, size_t numbers_length,
+                                           double *records, size_t records_length,
+                                           double *values, size_t values_length,
+                                           double *aim, size_t aim_length,
+                                           double *aim_no_sliders, size_t aim_no_sliders_length,
+                                           double *speed, size_t speed_length,
+                                           double *flashlight, size_t flashlight_length) {
+    fenv_t host;
+    difficulty_enter(&host);
+    return difficulty_leave(&host, difficulty_join(pack, pack_length, list, list_length, first, mods, given, numbers, numbers_length, records, records_length,
+                                                   values, values_length, aim, aim_length, aim_no_sliders, aim_no_sliders_length, speed, speed_length,
+                                                   flashlight, flashlight_length));
+}
+
 #endif

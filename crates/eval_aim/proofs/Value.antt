@@ -3,7 +3,7 @@ use Prim.Native.Nat.{ℕ, _-_, _≤_, _<_, min}
 use native.Mathlib.Omega.{arith}
 use native.Mathlib.Nat.{sub-zero}
 use mathlib.Core.Path.{_≡_, refl, sym, ap, _∙_}
-use mathlib.Core.Bool.{Bool, true, false, cond, _||_}
+use mathlib.Core.Bool.{Bool, true, false, cond, _||_, true≢false}
 use mathlib.Core.List.{List}
 use lib.Dec.{ltb, leb}
 use lib.Ieee as Ieee
@@ -43,6 +43,22 @@ aim-combine v before sliders = go (ltb before 2) (v 0 .base .spinner || v 1 .bas
     go true spinner = combine-none TooFew sliders
     go false true = combine-none Spinner sliders
     go false false = refl
+
+-- where neither of the last two objects is a slider, the parts are the same with sliders and without
+pub parts-plain : (v : View) (before : ℕ) → (v 1 .base .slider || v 2 .base .slider) ≡ false → partsOf v before true ≡ partsOf v before false
+unfolding partsOf allParts bonusesOf
+parts-plain v before e =
+    let one : v 1 .base .slider ≡ false = or-left (v 1 .base .slider) (v 2 .base .slider) e in
+    let two : v 2 .base .slider ≡ false = or-right (v 1 .base .slider) (v 2 .base .slider) e in
+    rw (one, two)
+  where
+    or-left : (a b : Bool) → (a || b) ≡ false → a ≡ false
+    or-left true b e = e
+    or-left false b e = refl
+
+    or-right : (a b : Bool) → (a || b) ≡ false → b ≡ false
+    or-right true b e = absurd (true≢false e)
+    or-right false b e = e
 
 -- ---- the reach
 

@@ -1,5 +1,6 @@
 // How hard an object is to aim at: evaluators/aim.rs.
 ghost use mathlib.Core.Path.{_≡_};
+ghost use mathlib.Core.Bool.{true, false};
 ghost use Prim.Native.Nat.{_+_, _*_, _-_, _≤_, _<_};
 ghost use lib.Dec.{leb};
 ghost use lib.ListN.{length};
@@ -60,6 +61,12 @@ pub struct AimParts {
     pub vel_change: f64,
     pub slider: f64,
     pub small_circle_bonus: f64,
+}
+
+// The values of a place with and without sliders.
+pub struct AimValues {
+    pub with: f64,
+    pub without: f64,
 }
 
 // The velocity to an object, through the one before it where that is a slider.
@@ -416,6 +423,37 @@ pub fn parts_place(
     let from = 16 * part.first;
     let to = 16 * (part.last + 1);
     parts_of(&t[from..to], part, chart, lay, j, with_slider_travel_dist)
+}
+
+// The parts without sliders at place j of a whole table, of those with sliders: where none of the last two objects is a slider they are the same.
+fn parts_without(t: &[f64], chart: &[u8], lay: Layout, j: usize, parts: AimParts) -> AimParts
+    requires { ⌜ Holds (now chart) lay × (1 ≤ j) × (j < lay .n) × (16 * lay .n ≤ length (now t))
+        × (parts ≡ partsAtPlace (objectOf (now chart) lay) (recordAt (now t)) j true) ⌝ }
+    ensures { λ r. ⌜ r ≡ partsAtPlace (objectOf (now (chart .entry)) lay) (recordAt (now (t .entry))) j false ⌝ }
+{
+    if j < 2 {
+        return parts_place(t, chart, lay, j, false);
+    }
+    let last = osu_object::base_at(chart, lay, j - 1);
+    let last_last = osu_object::base_at(chart, lay, j - 2);
+    if last.slider | last_last.slider {
+        return parts_place(t, chart, lay, j, false);
+    }
+    parts
+}
+
+// Both values at place j of a whole table: with sliders and without.
+pub fn evaluate_both(t: &[f64], chart: &[u8], lay: Layout, j: usize) -> AimValues
+    requires { ⌜ Holds (now chart) lay × (1 ≤ j) × (j < lay .n) × (16 * lay .n ≤ length (now t)) ⌝ }
+    ensures { λ r. ⌜ (r .with ≡ aimAtPlace (objectOf (now (chart .entry)) lay) (recordAt (now (t .entry))) j true)
+        × (r .without ≡ aimAtPlace (objectOf (now (chart .entry)) lay) (recordAt (now (t .entry))) j false) ⌝ }
+{
+    let parts = parts_place(t, chart, lay, j, true);
+    let plain = parts_without(t, chart, lay, j, parts);
+    AimValues {
+        with: parts.combine(true),
+        without: plain.combine(false),
+    }
 }
 
 // The value at place j of a whole table: the evaluator is lent the middle of it.

@@ -17,12 +17,10 @@ use Rattle.osu_difficulty_object.specs.Reading.{tapnessOf, windowOf}
 use Rattle.osu_difficulty_object.specs.declared.OsuDifficultyObject.{OsuDifficultyObject}
 use Rattle.eval_rhythm.specs.Constants.{historyTimeMax}
 use Rattle.eval_rhythm.specs.declared.island.IslandCount.{IslandCount}
-use Rattle.eval_rhythm.specs.declared.island.RhythmIsland.{RhythmIsland}
 use Rattle.eval_rhythm.specs.declared.step.RhythmState.{RhythmState}
 use Rattle.eval_rhythm.specs.declared.step.Deltas.{Deltas}
 use Rattle.eval_rhythm.specs.declared.step.Cell.{Cell}
-use Rattle.eval_rhythm.specs.Island.{newIsland}
-use Rattle.eval_rhythm.specs.Counts.{placeOf, entryOf}
+use Rattle.eval_rhythm.specs.Counts.{unmetOf, placeOf, entryOf}
 use Rattle.eval_rhythm.specs.Step.{Walk, walkOf, ratioOf, lastRatio, decayOf, switchedOf, freshState, freshWalk, switchStep, effectiveOf, deltasOf, switchesOf, stepBy, stepOf}
 use Rattle.eval_rhythm.specs.Rhythm.{Cells, runOf, nearOf, startFrom, cellAt, cellsAt}
 use Rattle.eval_rhythm.specs.Comparisons.{comparedAt, comparedBy, comparedIn, turnAt, comparisonsFrom}
@@ -63,10 +61,10 @@ count-one v hist window eps (suc k) s h = let e : suc k - 1 ≡ k = omega arith 
 
 -- ---- from what the calls of a turn ensure
 
-pub fresh-walk : (eps : Float) (s : RhythmState) (island : RhythmIsland) → s ≡ freshState eps → island ≡ newIsland eps
-    → walkOf s (replicate 32 (record { island = island; count = 0 })) ≡ freshWalk eps
+pub fresh-walk : (eps : Float) (s : RhythmState) (unmet : IslandCount) → s ≡ freshState eps → unmet ≡ unmetOf eps
+    → walkOf s (replicate 32 unmet) ≡ freshWalk eps
 unfolding freshWalk
-fresh-walk eps s island e i = rw (e, i)
+fresh-walk eps s unmet e i = rw (e, i)
 
 pub switch-is : (w : Walk) (ratio : Float) (d : Deltas) (curr prev : Cell) (decay window eps : Float)
     (at : ℕ) (e : IslandCount) (es : List IslandCount) (r tapped tap last : Float) (next : RhythmState)

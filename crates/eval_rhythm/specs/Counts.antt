@@ -6,14 +6,18 @@ use mathlib.Core.List.{List}
 use lib.Dec.{ltb}
 use lib.ListN.{getD}
 use lib.IntN.{pos}
-use lib.Ieee.{nan}
-use Rattle.eval_rhythm.specs.Island.{IslandOk, defaultOf, sameOf}
+use lib.Ieee.{Float, nan}
+use Rattle.eval_rhythm.specs.Island.{IslandOk, newIsland, defaultOf, sameOf}
 use Rattle.eval_rhythm.specs.declared.island.RhythmIsland.{RhythmIsland}
 use Rattle.eval_rhythm.specs.declared.island.IslandCount.{IslandCount}
 
 -- what is read past the end
 abbrev pub noCount : IslandCount
 noCount = record { island = record { «delta_difference_eps» = nan; delta = pos 0; «delta_count» = pos 0 }; count = 0 }
+
+-- an island of no delta that was not met yet
+abbrev pub unmetOf : Float → IslandCount
+unmetOf eps = record { island = newIsland eps; count = 0 }
 
 -- the first of the next `left` entries from place i on whose island equals s; the place past them where there is none
 unfoldable pub findFrom : List IslandCount → ℕ → ℕ → RhythmIsland → ℕ

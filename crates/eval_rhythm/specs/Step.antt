@@ -16,7 +16,7 @@ use Rattle.num_util.specs.Difficulty.{logistic, smoothstepBellCurve}
 use Rattle.osu_difficulty_object.specs.Reading.{tapnessOf, windowOf}
 use Rattle.eval_rhythm.specs.Constants.{historyTimeMax, rhythmRatioMultiplier, threeTenths, eighth, sixTenths, threeQuarters, leastDelta, eight, repeatMidpoint, repeatSlope, repeatMost}
 use Rattle.eval_rhythm.specs.Island.{eqI, newIsland, newWithDelta, addDelta, similarOf, sameOf}
-use Rattle.eval_rhythm.specs.Counts.{placeOf, entryOf}
+use Rattle.eval_rhythm.specs.Counts.{unmetOf, placeOf, entryOf}
 use Rattle.eval_rhythm.specs.declared.island.IslandCount.{IslandCount}
 use Rattle.eval_rhythm.specs.declared.step.RhythmState.{RhythmState}
 use Rattle.eval_rhythm.specs.declared.step.Cell.{Cell}
@@ -132,7 +132,7 @@ freshState eps = record {
 }
 
 unfoldable pub freshWalk : Float → Walk
-freshWalk eps = record { state = freshState eps; counts = replicate 32 (record { island = newIsland eps; count = 0 }) }
+freshWalk eps = record { state = freshState eps; counts = replicate 32 (unmetOf eps) }
 
 unfoldable pub switchStep : Walk → Float → Deltas → Cell → Cell → Float → Float → Float → Walk
 switchStep w ratio d curr prev decay window eps =

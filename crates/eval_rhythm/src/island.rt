@@ -6,7 +6,7 @@ ghost use mathlib.Core.List.{List};
 ghost use lib.ListN.{getD};
 ghost use lib.Signed.{nonNeg};
 ghost use Rattle.eval_rhythm.specs.Island.{maxZ, distZ, newIsland, newWithDelta, settledOf, addDelta, similarOf, defaultOf, sameOf, IslandOk};
-ghost use Rattle.eval_rhythm.specs.Counts.{noCount, EndsAt, placeOf, bumpedOf, entryOf, CountOk};
+ghost use Rattle.eval_rhythm.specs.Counts.{noCount, unmetOf, EndsAt, placeOf, bumpedOf, entryOf, CountOk};
 ghost use Rattle.eval_rhythm.specs.Comparisons.{comparedOf};
 ghost use Rattle.eval_rhythm.specs.declared.island.RhythmIsland.{RhythmIsland};
 ghost use Rattle.eval_rhythm.specs.declared.island.IslandCount.{IslandCount};
@@ -135,6 +135,16 @@ impl RhythmIsland {
         } else {
             false
         }
+    }
+}
+
+impl IslandCount {
+    // An island of no delta, not met yet.
+    pub fn new(eps: f64) -> Self
+        ensures { λ r. ⌜ r ≡ unmetOf eps ⌝ }
+    {
+        let island = RhythmIsland::new(eps);
+        Self { island, count: 0 }
     }
 }
 

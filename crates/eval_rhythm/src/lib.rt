@@ -11,7 +11,6 @@ ghost use Rattle.eval_rhythm.specs.Rhythm.{runOf, startOf, valueOf, cell
 ghost use Rattle.eval_rhythm.specs.Comparisons.{comparisonsFrom, comparisonsAtPlace};
 use chart_fields::Layout;
 use island::IslandCount;
-use island::RhythmIsland;
 use osu_object::OsuObject;
 use osu_records::Part;
 use step::Cell;
@@ -118,9 +117,7 @@ fn run(
             comparisons: 0,
         };
     }
-    let island = RhythmIsland::new(eps);
-    let fresh = IslandCount { island, count: 0 };
-    let mut counts = [fresh; 32];
+    let mut counts = [IslandCount::new(eps); 32];
     let mut s = RhythmState::new(eps);
     let mut prev = cell_at(t, part, chart, lay, j - (from + 1));
     let mut last = cell_at(t, part, chart, lay, j - (from + 2));
@@ -149,10 +146,8 @@ fn run(
         prev = curr;
         k -= 1;
     }
-    Summed {
-        sum: s.sum,
-        comparisons,
-    }
+    let sum = s.sum;
+    Summed { sum, comparisons }
 }
 
 // From the sum, and the doubletapness with the next record.

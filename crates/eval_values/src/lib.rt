@@ -22,9 +22,10 @@ pub fn values_at(t: &[f64], chart: &[u8], lay: Layout, set: Settings, j: usize) 
     ensures { λ r. ⌜ rowOf r ≡ valuesIn set (now (chart .entry)) lay (now (t .entry)) j ⌝ }
 {
     let light = eval_flashlight::evaluator_of(set);
+    let aim = eval_aim::evaluate_both(t, chart, lay, j);
     Values {
-        aim: eval_aim::evaluate_place(t, chart, lay, j, true),
-        aim_no_sliders: eval_aim::evaluate_place(t, chart, lay, j, false),
+        aim: aim.with,
+        aim_no_sliders: aim.without,
         speed: eval_speed::evaluate_place(t, chart, lay, j, set.hit_window, set.autopilot),
         rhythm: eval_rhythm::evaluate_place(t, chart, lay, j, set.hit_window),
         flashlight: light.evaluate_place(t, chart, lay, j, set.hidden),

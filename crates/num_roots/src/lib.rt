@@ -77,8 +77,9 @@ fn near_root(n: u64) -> u64
     let y1 = y0 * (1.5 - half * y0 * y0);
     let y2 = y1 * (1.5 - half * y1 * y1);
     let y3 = y2 * (1.5 - half * y2 * y2);
-    // The sum with 2^52 has the whole number in its last digits.
-    num_floats::bits_of_f64(x * y3 * 2.0 + num_floats::TWO_52) % 0x8000_0000
+    // The sum with 2^52 has the nearest whole number in its last digits; with nearly a half less, the root itself but about once in a hundred, so that
+    // the tests which follow seldom go the other way.
+    num_floats::bits_of_f64(2.0 * x * y3 - 0.49 + num_floats::TWO_52) % 0x8000_0000
 }
 
 // The number below s, 0 for 0.

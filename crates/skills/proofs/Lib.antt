@@ -5,6 +5,7 @@ pub mod Reducing
 pub mod Sums
 pub mod Closing
 pub mod Places
+pub mod Strands
 pub mod Local
 pub mod Ends
 pub mod Span

@@ -114,28 +114,35 @@ module _ (s : List ℕ) (lay : Layout) (clock : Float) (values : List Float) (k 
         ∙ (rw (e, m .joined-is, m .last-is) refl)
         ∙ ap (λ (v : Walk). closeTo (room - length (v .peaks)) (initialStrain k (strains (j - 1)) (starts (j - 1))) (starts j) v) (m .walk-is)
 
-    pub walked-next : j < n → (raw′ : Float) → raw′ ≡ fieldsOf s lay j .start → (p′ : List Float) (w′ : Sections) → length p′ ≡ length p → w′ .count ≤ room
-        → shown p′ w′ ≡ closeTo (room - w .count) (initialStrain k t last) (raw′ ⊘ clock) (shown p w)
-        → (c′ t′ : Float) (w″ : Sections) → c′ ≡ strainNext k c ((raw′ ⊖ raw) ⊘ clock) (row 5 values j) → t′ ≡ joined k c′ (row 5 values j) → w″ ≡ Shown.joined w′ t′
+    pub walked-step : j < n → (raw′ : Float) → raw′ ≡ fieldsOf s lay j .start → (p′ : List Float) (w″ : Sections) → length p′ ≡ length p → w″ .count ≤ room
+        → (c′ t′ : Float) → c′ ≡ strainNext k c ((raw′ ⊖ raw) ⊘ clock) (row 5 values j) → t′ ≡ joined k c′ (row 5 values j)
+        → shown p′ w″ ≡ join t′ (closeTo (room - w .count) (initialStrain k t last) (raw′ ⊘ clock) (shown p w))
         → Walked p₀ n p′ w″ raw′ (raw′ ⊘ clock) c′ t′ (j + 1)
-    walked-next h raw′ er p′ w′ kp wi sh c′ t′ w″ ec et ew =
+    walked-step h raw′ er p′ w″ kp wi c′ t′ ec et sh =
         let e : j ≡ j + 1 - 1 = omega arith in
         let es : raw′ ⊘ clock ≡ starts j = ap (λ (x : Float). x ⊘ clock) er ∙ sym (start-at s lay clock j (m .carried .from)) in
         let est = strain-here (m .carried) raw′ c′ er ec t′ et in
         record {
           carried = carried-next (m .carried) raw′ c′ er ec;
           to = omega arith;
-          within = subst (λ (v : Sections). v .count ≤ room) (sym ew) wi;
+          within = wi;
           kept = kp ∙ m .kept;
           last-is = es ∙ ap starts e;
           joined-is = est ∙ ap strains e;
           walk-is =
-              ap (shown p′) ew
-              ∙ ap (join t′) (sh ∙ reached-is (raw′ ⊘ clock) es)
+              sh
+              ∙ ap (join t′) (reached-is (raw′ ⊘ clock) es)
               ∙ ap (λ (x : Float). join x (reached k starts strains j (walk k starts strains (j - 1)))) est
               ∙ sym (walk-at k starts strains j (m .carried .from))
               ∙ ap (walk k starts strains) e;
         }
+
+    pub walked-next : j < n → (raw′ : Float) → raw′ ≡ fieldsOf s lay j .start → (p′ : List Float) (w′ : Sections) → length p′ ≡ length p → w′ .count ≤ room
+        → shown p′ w′ ≡ closeTo (room - w .count) (initialStrain k t last) (raw′ ⊘ clock) (shown p w)
+        → (c′ t′ : Float) (w″ : Sections) → c′ ≡ strainNext k c ((raw′ ⊖ raw) ⊘ clock) (row 5 values j) → t′ ≡ joined k c′ (row 5 values j) → w″ ≡ Shown.joined w′ t′
+        → Walked p₀ n p′ w″ raw′ (raw′ ⊘ clock) c′ t′ (j + 1)
+    walked-next h raw′ er p′ w′ kp wi sh c′ t′ w″ ec et ew =
+        walked-step h raw′ er p′ w″ kp (subst (λ (v : Sections). v .count ≤ room) (sym ew) wi) c′ t′ ec et (ap (shown p′) ew ∙ ap (join t′) sh)
 
     pub walked-done : n ≤ j → take (w .count + 1) (set p (w .count) (w .peak)) ≡ peaksTo k starts strains (n - 1)
     unfolding peaksTo

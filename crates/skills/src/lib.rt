@@ -1,13 +1,15 @@
 // Strains, the section walk and the totals of the four skills (document 01, "Strains and totals").
 ghost use mathlib.Core.Path.{_≡_};
 ghost use Prim.Native.Nat.{_+_, _-_, _*_, _≤_, _<_};
-ghost use lib.ListN.{length, take, replicate};
+ghost use lib.ListN.{length, take, set, replicate};
 ghost use Rattle.num_floats.specs.Numbers.{zero64};
 ghost use Rattle.chart_fields.specs.Objects.{Holds, fieldsOf};
 ghost use Rattle.num_tables.specs.Parts.{row, fill};
 ghost use Rattle.skills.specs.Strains as strains;
 ghost use Rattle.skills.specs.Chart.{Readable, Roomy, strainRow, peaksOf, totalOf, totalsOf};
 ghost use Rattle.skills.specs.Shown.{shown, opened, closed, joined};
+ghost use Rattle.skills.specs.Strands.{strainBy, startedWith, Advanced, PeaksIn};
+ghost use Rattle.skills.specs.declared.Skill.the-variants as Skill;
 
 mod aim;
 mod flashlight;
@@ -37,6 +39,40 @@ pub struct Sections {
     pub count: usize,
     pub peak: f64,
     pub end: f64,
+}
+
+// What the walk holds of a skill: its sections, its decaying strain, and its strain at the place before.
+struct Strand {
+    sections: Sections,
+    current: f64,
+    strain: f64,
+}
+
+// How many peaks there are of aim, aim without sliders and flashlight.
+struct Peaks {
+    aim: usize,
+    aim_no_sliders: usize,
+    flashlight: usize,
+}
+
+// The totals of the skills whose strains decay alike.
+struct AlikeTotals {
+    aim: f64,
+    aim_no_sliders: f64,
+    flashlight: f64,
+}
+
+impl Strand {
+    // Before place 1.
+    fn new(sections: Sections) -> Self
+        ensures { λ r. ⌜ r ≡ startedWith sections ⌝ }
+    {
+        Self {
+            sections,
+            current: 0.0,
+            strain: 0.0,
+        }
+    }
 }
 
 // The length of a section, in milliseconds.
@@ -110,14 +146,22 @@ fn strain_decay(ms: f64, base: f64) -> f64
     num_elementary::power(base, ms / MS_PER_SECOND)
 }
 
-// The Rust's `current_strain` at place j, after `current` at the place before.
+// The Rust's `current_strain` at place j, after `current` at the place before, of which `decay` is left.
+fn decayed_strain(values: &[f64], j: usize, skill: Skill, current: f64, decay: f64) -> f64
+    requires { ⌜ 5 * j + 5 ≤ length (now values) ⌝ }
+    ensures { λ r. ⌜ r ≡ strainBy skill current decay (row 5 (now (values .entry)) j) ⌝ }
+{
+    let at = VALUES * j + column(skill);
+    current * decay + values[at] * skill_multiplier(skill)
+}
+
+// The same with the time since the place before.
 pub fn current_strain(values: &[f64], j: usize, skill: Skill, current: f64, delta: f64) -> f64
     requires { ⌜ 5 * j + 5 ≤ length (now values) ⌝ }
     ensures { λ r. ⌜ r ≡ strains.strainNext skill current delta (row 5 (now (values .entry)) j) ⌝ }
 {
     let decay = strain_decay(elapsed(skill, delta), strain_decay_base(skill));
-    let at = VALUES * j + column(skill);
-    current * decay + values[at] * skill_multiplier(skill)
+    decayed_strain(values, j, skill, current, decay)
 }
 
 // The strain at place j, of its decaying strain: speed's times the rhythm, the others' alone.
@@ -234,6 +278,105 @@ fn walk(
     count + 1
 }
 
+// One place more of a skill's walk: sections that end before `start` are closed, and the strain, of which `decay` is left, joins.
+fn advance(
+    peaks: &mut [f64],
+    from: Strand,
+    values: &[f64],
+    j: usize,
+    skill: Skill,
+    decay: f64,
+    last: f64,
+    start: f64,
+) -> Strand
+    requires { ⌜ (from .sections .count ≤ strains.room) × (Roomy (now peaks)) × (5 * j + 5 ≤ length (now values)) ⌝ }
+    ensures { λ r. ⌜ Advanced skill decay last start (row 5 (now (values .entry)) j) (now (peaks .entry)) from (now (peaks .exit)) r ⌝ }
+{
+    let before = from.sections;
+    let closed = close_sections(peaks, before, skill, from.strain, last, start);
+    let current = decayed_strain(values, j, skill, from.current, decay);
+    let strain = strain_value_at(values, j, skill, current);
+    let sections = join(closed, strain);
+    Strand {
+        sections,
+        current,
+        strain,
+    }
+}
+
+// The open section's peak behind the closed ones; returns how many they are then.
+fn close_last(peaks: &mut [f64], s: Sections) -> usize
+    requires { ⌜ (s .count ≤ strains.room) × (Roomy (now peaks)) ⌝ }
+    ensures { λ r. ⌜ (r ≡ s .count + 1) × (now (peaks .exit) ≡ set (now (peaks .entry)) (s .count) (s .peak)) ⌝ }
+{
+    let count = s.count;
+    peaks[count] = s.peak;
+    count + 1
+}
+
+// The section walks of aim, aim without sliders and flashlight over a chart of two objects or more. Their strains decay alike, so that the power is taken once
+// for all three. Writes the peaks of all sections, the last closed too, and returns how many they are.
+fn walk_three(
+    chart: &[u8],
+    lay: Layout,
+    clock: f64,
+    values: &[f64],
+    aim: &mut [f64],
+    aim_no_sliders: &mut [f64],
+    flashlight: &mut [f64],
+) -> Peaks
+    requires { ⌜ (Readable (now chart) lay (now values)) × (2 ≤ lay .n)
+        × (Roomy (now aim)) × (Roomy (now «aim_no_sliders»)) × (Roomy (now flashlight)) ⌝ }
+    ensures aim { λ r. ⌜ PeaksIn (now (aim .exit)) (r .aim) (peaksOf (now (chart .entry)) lay clock (now (values .entry)) Skill.Aim) ⌝ }
+    ensures plain { λ r. ⌜ PeaksIn (now («aim_no_sliders» .exit)) (r .«aim_no_sliders»)
+        (peaksOf (now (chart .entry)) lay clock (now (values .entry)) Skill.AimNoSliders) ⌝ }
+    ensures light { λ r. ⌜ PeaksIn (now (flashlight .exit)) (r .flashlight)
+        (peaksOf (now (chart .entry)) lay clock (now (values .entry)) Skill.Flashlight) ⌝ }
+{
+    let n = lay.n;
+    let sections = open_first(raw_start(chart, lay, 1) / clock);
+    let mut raw_last = raw_start(chart, lay, 0);
+    let mut last = 0.0;
+    let mut a = Strand::new(sections);
+    let mut b = Strand::new(sections);
+    let mut c = Strand::new(sections);
+    let mut j = 1;
+    while j < n {
+        let raw = raw_start(chart, lay, j);
+        let start = raw / clock;
+        let decay = strain_decay((raw - raw_last) / clock, strain_decay_base(Skill::Aim));
+        a = advance(aim, a, values, j, Skill::Aim, decay, last, start);
+        b = advance(
+            aim_no_sliders,
+            b,
+            values,
+            j,
+            Skill::AimNoSliders,
+            decay,
+            last,
+            start,
+        );
+        c = advance(
+            flashlight,
+            c,
+            values,
+            j,
+            Skill::Flashlight,
+            decay,
+            last,
+            start,
+        );
+        raw_last = raw;
+        last = start;
+        j += 1;
+    }
+    Peaks {
+        aim: close_last(aim, a.sections),
+        aim_no_sliders: close_last(aim_no_sliders, b.sections),
+        flashlight: close_last(flashlight, c.sections),
+    }
+}
+
 // The strains of places 1 to n - 1 of one skill, each written to its place.
 pub fn strains_into(
     chart: &[u8],
@@ -283,6 +426,41 @@ fn skill_total(
     strain::difficulty_of(skill, &mut peaks[0..count], tmp)
 }
 
+// The totals of aim, aim without sliders and flashlight. What the scratch holds afterwards is not said.
+fn alike_totals(
+    chart: &[u8],
+    lay: Layout,
+    clock: f64,
+    values: &[f64],
+    aim: &mut [f64],
+    aim_no_sliders: &mut [f64],
+    flashlight: &mut [f64],
+    tmp: &mut [f64],
+) -> AlikeTotals
+    requires { ⌜ (Readable (now chart) lay (now values))
+        × (Roomy (now aim)) × (Roomy (now «aim_no_sliders»)) × (Roomy (now flashlight)) × (Roomy (now tmp)) ⌝ }
+    ensures { λ r. ⌜ (r .aim ≡ totalOf (now (chart .entry)) lay clock (now (values .entry)) Skill.Aim)
+        × (r .«aim_no_sliders» ≡ totalOf (now (chart .entry)) lay clock (now (values .entry)) Skill.AimNoSliders)
+        × (r .flashlight ≡ totalOf (now (chart .entry)) lay clock (now (values .entry)) Skill.Flashlight) ⌝ }
+{
+    if lay.n < 2 {
+        return AlikeTotals {
+            aim: 0.0,
+            aim_no_sliders: 0.0,
+            flashlight: 0.0,
+        };
+    }
+    let peaks = walk_three(chart, lay, clock, values, aim, aim_no_sliders, flashlight);
+    let a = peaks.aim;
+    let b = peaks.aim_no_sliders;
+    let c = peaks.flashlight;
+    AlikeTotals {
+        aim: strain::difficulty_of(Skill::Aim, &mut aim[0..a], tmp),
+        aim_no_sliders: strain::difficulty_of(Skill::AimNoSliders, &mut aim_no_sliders[0..b], tmp),
+        flashlight: strain::difficulty_of(Skill::Flashlight, &mut flashlight[0..c], tmp),
+    }
+}
+
 // All numbers become 0.
 pub fn clear(a: &mut [f64])
     ensures { λ _. ⌜ now (a .exit) ≡ replicate (length (now (a .entry))) zero64 ⌝ }
@@ -313,34 +491,25 @@ pub fn totals(
     ensures third { λ _. ⌜ now (speed .exit) ≡ replicate (length (now (speed .entry))) zero64 ⌝ }
     ensures fourth { λ _. ⌜ now (flashlight .exit) ≡ replicate (length (now (flashlight .entry))) zero64 ⌝ }
 {
-    let total = skill_total(chart, lay, clock, values, Skill::Aim, aim, aim_no_sliders);
-    let without = skill_total(
+    let alike = alike_totals(
         chart,
         lay,
         clock,
         values,
-        Skill::AimNoSliders,
-        aim_no_sliders,
         aim,
-    );
-    let speed_total = skill_total(chart, lay, clock, values, Skill::Speed, speed, flashlight);
-    let light_total = skill_total(
-        chart,
-        lay,
-        clock,
-        values,
-        Skill::Flashlight,
+        aim_no_sliders,
         flashlight,
         speed,
     );
+    let speed_total = skill_total(chart, lay, clock, values, Skill::Speed, speed, flashlight);
     clear(aim);
     clear(aim_no_sliders);
     clear(speed);
     clear(flashlight);
     Skills {
-        aim: total,
-        aim_no_sliders: without,
+        aim: alike.aim,
+        aim_no_sliders: alike.aim_no_sliders,
         speed: speed_total,
-        flashlight: light_total,
+        flashlight: alike.flashlight,
     }
 }

@@ -24,10 +24,11 @@ use Rattle.star_rating.specs.declared.Asked.{Asked}
 use Rattle.star_rating.specs.declared.Ratings.{Ratings}
 use Rattle.calls.specs.Tables.{valueEntries}
 use Rattle.calls.specs.Afresh.{Finding, aimIs, rhythmIs, Figure, Amount, totalsAre, countsAre, playedAre, ratingsAre}
-use Rattle.calls.specs.Conditions.{Scratch, lengths, scratchShort, Operation, figure, figureVerdict}
+use Rattle.calls.specs.Conditions.{Scratch, Lengths, lengths, scratchShort, Operation, figure, figureVerdict}
 use Rattle.chart_players.specs.Second.{under, secondVerdict}
 use Rattle.calls_players.specs.Second.{seen, outcomeAs}
 use Rattle.calls.specs.Calls.{Answer, refused, replaced, inserted, removed, recordIs, valuesAre, detailIs, figureIs, State, Outcome, refuse, execute, outcome, cleared}
+use Rattle.pack.specs.Pack.{Lent, rankVerdict, rankedLent}
 
 -- 2^32
 abbrev pub placeSpan : ℕ
@@ -163,3 +164,15 @@ askedOf mods given numbers = record {
 -- no room for the ratings, or too few numbers
 unfoldable pub ratingsCramped : ℕ → ℕ → Bool
 ratingsCramped room numbers = ltb room ratingsWidth || ltb numbers numbersWidth
+
+-- ---- Packs (order 13): too few numbers count in condition 7, as short scratch does
+
+abbrev pub noScratch : Lengths
+noScratch = record { aim = 0; aimNoSliders = 0; speed = 0; flashlight = 0 }
+
+unfoldable pub rankVerdictInto : Asked → Bool → List ℕ → Lent → Verdict
+rankVerdictInto asked cramped pack x =
+    rankVerdict asked (length (x .tables .records)) (length (x .tables .values)) (cond cramped noScratch (lengths (x .scratch))) pack (x .list)
+
+unfoldable pub rankInto : Asked → Bool → List ℕ → Lent → Lent
+rankInto asked cramped pack x = ifAccepted (rankVerdictInto asked cramped pack x) (rankedLent asked pack x) (λ r. x)

@@ -24,6 +24,8 @@ ghost use Rattle.figures.specs.Answers.{totalsAnswer, countsAnswer, ratingsAnsw
 ghost use Rattle.station.specs.Codes.{codeOf, verdictCode, answerCode, ruleNumber, findingRow, numbersOf, totalsRow, countsRow, ratingsRow};
 ghost use Rattle.station.specs.Codes.{aimWidth, rhythmWidth, countsWidth, ratingsWidth, askedOf, ratingsCramped};
 ghost use Rattle.station.specs.Codes.{readInto, figureInto, scratchInto, readIntoAs, figureIntoAs, scratchIntoAs};
+ghost use Rattle.station.specs.Codes.{numbersWidth, rankVerdictInto, rankInto};
+ghost use Rattle.pack.specs.Pack.{lent, tables};
 use chart_opening::Refusal;
 use chart_opening::Verdict;
 use eval_aim::AimRule;
@@ -1231,5 +1233,133 @@ pub extern "C" fn difficulty_ratings(
         speed,
         flashlight,
         out,
+    )
+}
+
+// Puts a list of offsets into a pack in order, where the numbers that come with the call are enough or too few.
+fn join_into(
+    pack: &[u8],
+    list: &mut [usize],
+    first: usize,
+    asked: Asked,
+    records: &mut [f64],
+    values: &mut [f64],
+    aim: &mut [f64],
+    aim_no_sliders: &mut [f64],
+    speed: &mut [f64],
+    flashlight: &mut [f64],
+    cramped: bool,
+) -> Verdict
+    ensures answer { λ r. ⌜ r ≡ rankVerdictInto asked cramped (now (pack .entry)) (lent (now (list .entry))
+        (tables (now (records .entry)) (now (values .entry)))
+        (scratchOf (now (aim .entry)) (now («aim_no_sliders» .entry)) (now (speed .entry)) (now (flashlight .entry)))) ⌝ }
+    ensures leaves { λ _. ⌜ lent (now (list .exit)) (tables (now (records .exit)) (now (values .exit)))
+        (scratchOf (now (aim .exit)) (now («aim_no_sliders» .exit)) (now (speed .exit)) (now (flashlight .exit)))
+        ≡ rankInto asked cramped (now (pack .entry)) (lent (now (list .entry)) (tables (now (records .entry)) (now (values .entry)))
+        (scratchOf (now (aim .entry)) (now («aim_no_sliders» .entry)) (now (speed .entry)) (now (flashlight .entry)))) ⌝ }
+{
+    if cramped & (0 < list.len()) {
+        return pack::check(pack, list, asked, records.len(), values.len(), 0, 0, 0, 0);
+    }
+    pack::join(
+        pack,
+        list,
+        first,
+        asked,
+        records,
+        values,
+        aim,
+        aim_no_sliders,
+        speed,
+        flashlight,
+    )
+}
+
+// Puts two lists of offsets into a pack that lie one behind the other, the first of them `first` long, in order as one, under mods and with numbers that come
+// with the call.
+#[no_mangle]
+pub extern "C" fn difficulty_join(
+    pack: &[u8],
+    list: &mut [usize],
+    first: usize,
+    mods: u32,
+    given: u32,
+    numbers: &[f64],
+    records: &mut [f64],
+    values: &mut [f64],
+    aim: &mut [f64],
+    aim_no_sliders: &mut [f64],
+    speed: &mut [f64],
+    flashlight: &mut [f64],
+) -> u64
+    ensures answer { λ r. ⌜ r ≡ verdictCode (rankVerdictInto (askedOf mods given (now (numbers .entry))) (ltb (length (now (numbers .entry))) numbersWidth)
+        (now (pack .entry)) (lent (now (list .entry)) (tables (now (records .entry)) (now (values .entry)))
+        (scratchOf (now (aim .entry)) (now («aim_no_sliders» .entry)) (now (speed .entry)) (now (flashlight .entry))))) ⌝ }
+    ensures leaves { λ _. ⌜ lent (now (list .exit)) (tables (now (records .exit)) (now (values .exit)))
+        (scratchOf (now (aim .exit)) (now («aim_no_sliders» .exit)) (now (speed .exit)) (now (flashlight .exit)))
+        ≡ rankInto (askedOf mods given (now (numbers .entry))) (ltb (length (now (numbers .entry))) numbersWidth)
+        (now (pack .entry)) (lent (now (list .entry)) (tables (now (records .entry)) (now (values .entry)))
+        (scratchOf (now (aim .entry)) (now («aim_no_sliders» .entry)) (now (speed .entry)) (now (flashlight .entry)))) ⌝ }
+    ensures pack { λ _. ⌜ now (pack .exit) ≡ now (pack .entry) ⌝ }
+    ensures numbers { λ _. ⌜ now (numbers .exit) ≡ now (numbers .entry) ⌝ }
+{
+    let asked = asked_of(mods, given, numbers);
+    match join_into(
+        pack,
+        list,
+        first,
+        asked,
+        records,
+        values,
+        aim,
+        aim_no_sliders,
+        speed,
+        flashlight,
+        numbers.len() < NUMBERS_WIDTH,
+    ) {
+        Verdict::Refused(r) => code(r),
+        Verdict::Accepted => 0,
+    }
+}
+
+// Puts a list of offsets into a pack in order, the higher chart first, under mods and with numbers that come with the call.
+#[no_mangle]
+pub extern "C" fn difficulty_rank(
+    pack: &[u8],
+    list: &mut [usize],
+    mods: u32,
+    given: u32,
+    numbers: &[f64],
+    records: &mut [f64],
+    values: &mut [f64],
+    aim: &mut [f64],
+    aim_no_sliders: &mut [f64],
+    speed: &mut [f64],
+    flashlight: &mut [f64],
+) -> u64
+    ensures answer { λ r. ⌜ r ≡ verdictCode (rankVerdictInto (askedOf mods given (now (numbers .entry))) (ltb (length (now (numbers .entry))) numbersWidth)
+        (now (pack .entry)) (lent (now (list .entry)) (tables (now (records .entry)) (now (values .entry)))
+        (scratchOf (now (aim .entry)) (now («aim_no_sliders» .entry)) (now (speed .entry)) (now (flashlight .entry))))) ⌝ }
+    ensures leaves { λ _. ⌜ lent (now (list .exit)) (tables (now (records .exit)) (now (values .exit)))
+        (scratchOf (now (aim .exit)) (now («aim_no_sliders» .exit)) (now (speed .exit)) (now (flashlight .exit)))
+        ≡ rankInto (askedOf mods given (now (numbers .entry))) (ltb (length (now (numbers .entry))) numbersWidth)
+        (now (pack .entry)) (lent (now (list .entry)) (tables (now (records .entry)) (now (values .entry)))
+        (scratchOf (now (aim .entry)) (now («aim_no_sliders» .entry)) (now (speed .entry)) (now (flashlight .entry)))) ⌝ }
+    ensures pack { λ _. ⌜ now (pack .exit) ≡ now (pack .entry) ⌝ }
+    ensures numbers { λ _. ⌜ now (numbers .exit) ≡ now (numbers .entry) ⌝ }
+{
+    difficulty_join(
+        pack,
+        list,
+        0,
+        mods,
+        given,
+        numbers,
+        records,
+        values,
+        aim,
+        aim_no_sliders,
+        speed,
+        flashlight,
     )
 }

@@ -12,6 +12,9 @@ use Rattle.eval_values.proofs.values_at.Tie as tie
 evaluator-of-requires : tie.Need-evaluator-of-requires
 evaluator-of-requires c κs = search needs
 
+evaluate-both-requires : tie.Need-evaluate-both-requires
+evaluate-both-requires c κs = search needs
+
 evaluate-place-requires : tie.Need-evaluate-place-requires
 evaluate-place-requires c κs = search needs
 
@@ -21,26 +24,15 @@ evaluate-place-requires-2 c κs = search needs
 evaluate-place-requires-3 : tie.Need-evaluate-place-requires-3
 evaluate-place-requires-3 c κs = search needs
 
-evaluate-place-requires-4 : tie.Need-evaluate-place-requires-4
-evaluate-place-requires-4 c κs = search needs
-
-evaluate-place-requires-5 : tie.Need-evaluate-place-requires-5
-evaluate-place-requires-5 c κs = search needs
-
 returns : tie.Need-returns
 unfolding rowOf valuesOf
-returns c = λ i. c .before .before .before .before .evaluate-place .ensures i ∷ c .before .before .before .evaluate-place2 .ensures i ∷ c .before .before .evaluate-place3 .ensures i ∷ c .before .evaluate-place4 .ensures i ∷ (c .evaluate-place5 .ensures
-    ∙ ap (λ e. flashlightAtPlace e (objectOf (c .before .before .before .before .before .before .before .before .args .chart .now) (c .before .before .before .before .before .before .before .before .args .lay)) (recordAt (c .before .before .before .before .before .before .before .before .args .t .now)) (c .before .before .before .before .before .before .before .before .args .j) (c .before .before .before .before .before .before .before .before .args .set .hidden))
-    (c .before .before .before .before .before .evaluator-of .ensures)) i ∷ []
+returns c =
+    let a = c .before .before .before .before .before .before .before .args in
+    λ i. c .before .before .before .evaluate-both .ensures .0 i ∷ c .before .before .before .evaluate-both .ensures .1 i ∷ c .before .before .evaluate-place .ensures i ∷ c .before .evaluate-place2 .ensures i ∷ (c .evaluate-place3 .ensures
+    ∙ ap (λ e. flashlightAtPlace e (objectOf (a .chart .now) (a .lay)) (recordAt (a .t .now)) (a .j) (a .set .hidden))
+    (c .before .before .before .before .evaluator-of .ensures)) i ∷ []
 
 pub values-at-spec : {M : Type 1} → statement M
 values-at-spec =
     tie.close
-    (tie.spec
-    evaluator-of-requires
-    evaluate-place-requires
-    evaluate-place-requires-2
-    evaluate-place-requires-3
-    evaluate-place-requires-4
-    evaluate-place-requires-5
-    returns)
+    (tie.spec evaluator-of-requires evaluate-both-requires evaluate-place-requires evaluate-place-requires-2 evaluate-place-requires-3 returns)

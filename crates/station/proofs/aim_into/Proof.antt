@@ -2,7 +2,7 @@
 use mathlib.Core.Path.{sym, _∙_}
 use mathlib.Core.List.{[]}
 use Rattle.calls.specs.Calls.{refused, result, refuse}
-use Rattle.station.proofs.Rooms.{into-short, into-long}
+use Rattle.station.proofs.Rooms.{into-short-as, into-long-as}
 use borrow.Author.Needs.{needs}
 use Rattle.station.proofs.aim_into.Statement.{statement}
 use Rattle.station.proofs.aim_into.Tie as tie
@@ -12,13 +12,13 @@ no-room-requires c κs = search needs
 
 returns : tie.Need-returns
 unfolding refuse
-returns c = (λ i. result (refused (c .no-room .ensures i)) (c .before .before .before .before .args .chart .now) (c .before .before .before .before .args .records .now) []) ∙ sym (into-short _ _ _ _ (c .before .if1 .taken))
+returns c = sym (into-short-as _ _ _ _ _ (c .before .if1 .taken) _ (c .no-room .ensures))
 
-read-aim-parts-requires : tie.Need-read-aim-parts-requires
-read-aim-parts-requires c κs = search needs
+read-aim-parts-as-requires : tie.Need-read-aim-parts-as-requires
+read-aim-parts-as-requires c κs = search needs
 
 returns-2 : tie.Need-returns-2
-returns-2 c = c .read-aim-parts .ensures ∙ sym (into-long _ _ _ _ (c .before .if1 .left))
+returns-2 c = c .read-aim-parts-as .ensures .0 ∙ sym (into-long-as _ _ _ _ _ (c .before .if1 .left))
 
 pub aim-into-spec : {M : Type 1} → statement M
-aim-into-spec = tie.close (tie.spec no-room-requires returns read-aim-parts-requires returns-2)
+aim-into-spec = tie.close (tie.spec no-room-requires returns read-aim-parts-as-requires returns-2)

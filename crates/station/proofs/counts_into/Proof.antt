@@ -12,12 +12,12 @@ refuse-sums-requires c κs = search needs
 
 returns : tie.Need-returns
 returns c =
-    let a = c .before .before .before .before .before .before .before .before .args in
-    let h = figure-short counts (a .cramped) (scratchOf (a .aim .now) (a .aim-no-sliders .now) (a .speed .now) (a .flashlight .now)) (a .chart .now) (a .values .now) (c .before .if1 .taken) _ (c .refuse-sums .ensures) in
+    let a = c .before .before .before .before .before .before .before .before .before .args in
+    let h = figure-short (a .settings .now) counts (a .cramped) (scratchOf (a .aim .now) (a .aim-no-sliders .now) (a .speed .now) (a .flashlight .now)) (a .chart .now) (a .values .now) (c .before .if1 .taken) _ (c .refuse-sums .ensures) in
     (sym (h .0), sym (h .1))
 
-counts-requires : tie.Need-counts-requires
-counts-requires c κs = search needs
+counts-as-requires : tie.Need-counts-as-requires
+counts-as-requires c κs = search needs
 
 same-length : tie.Need-same-length
 same-length c = search needs
@@ -33,9 +33,9 @@ same-length-4 c = search needs
 
 returns-2 : tie.Need-returns-2
 returns-2 c =
-    let a = c .before .before .before .before .before .before .before .before .before .before .before .before .before .before .before .before .before .before .before .before .args in
-    let h = figure-long counts (a .cramped) (scratchOf (a .aim .now) (a .aim-no-sliders .now) (a .speed .now) (a .flashlight .now)) (a .chart .now) (a .values .now) (c .before .before .before .before .before .before .before .before .before .before .before .before .before .if1 .left) in
-    (c .before .before .before .before .before .before .before .before .counts .ensures .0 ∙ sym (h .0), c .before .before .before .before .before .before .before .before .counts .ensures .1 ∙ sym (h .1))
+    let a = c .before .before .before .before .before .before .before .before .before .before .before .before .before .before .before .before .before .before .before .before .before .args in
+    let h = figure-long (a .settings .now) counts (a .cramped) (scratchOf (a .aim .now) (a .aim-no-sliders .now) (a .speed .now) (a .flashlight .now)) (a .chart .now) (a .values .now) (c .before .before .before .before .before .before .before .before .before .before .before .before .before .if1 .left) in
+    (c .before .before .before .before .before .before .before .before .counts-as .ensures .0 ∙ sym (h .0), c .before .before .before .before .before .before .before .before .counts-as .ensures .1 .0 ∙ sym (h .1))
 
 pub counts-into-spec : {M : Type 1} → statement M
 counts-into-spec =
@@ -43,7 +43,7 @@ counts-into-spec =
     (tie.spec
     refuse-sums-requires
     returns
-    counts-requires
+    counts-as-requires
     same-length
     same-length-2
     same-length-3

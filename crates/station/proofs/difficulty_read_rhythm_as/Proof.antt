@@ -1,4 +1,4 @@
--- `station::difficulty_read_rhythm` meets its contract. Assumes nothing.
+-- `station::difficulty_read_rhythm_as` meets its contract. Assumes nothing.
 use mathlib.Core.Path.{refl, sym, ap, _∙_}
 use native.Mathlib.Omega.{arith}
 use lib.ListN.{length, length-set}
@@ -7,10 +7,10 @@ use Rattle.num_tables.specs.Rows.{sets-put}
 use Rattle.calls.specs.Calls.{Answer, Outcome}
 use Rattle.readings.specs.Answers.{rhythmAnswer}
 use Rattle.station.specs.Codes.{rhythmWidth, answerCode, numbersOf}
-use Rattle.station.proofs.Rooms.{put-none, into-room, no-detail, few-compared}
+use Rattle.station.proofs.Rooms.{put-none, into-room-as, no-detail, few-compared}
 use borrow.Author.Needs.{needs}
-use Rattle.station.proofs.difficulty_read_rhythm.Statement.{statement}
-use Rattle.station.proofs.difficulty_read_rhythm.Tie as tie
+use Rattle.station.proofs.difficulty_read_rhythm_as.Statement.{statement}
+use Rattle.station.proofs.difficulty_read_rhythm_as.Tie as tie
 
 rhythm-into-requires : tie.Need-rhythm-into-requires
 rhythm-into-requires c κs = search needs
@@ -26,12 +26,12 @@ enum-known-c c = search needs
 
 slice-write-out : tie.Need-slice-write-out
 slice-write-out c =
-    let h = into-room rhythmWidth (length (c .before .before .before .before .before .before .before .args .out .now)) _ _ _ (no-detail _) (sym (ap rhythmAnswer (c .before .c .given .1)) ∙ ap (λ (x : Outcome). x .answer) (c .before .before .before .rhythm-into .ensures)) in
+    let h = into-room-as _ rhythmWidth (length (c .before .before .before .before .before .before .before .before .args .out .now)) _ _ _ (no-detail _) (sym (ap rhythmAnswer (c .before .c .given .1)) ∙ ap (λ (x : Outcome). x .answer) (c .before .before .before .rhythm-into .ensures)) in
     omega (arith, h)
 
 cast-out : tie.Need-cast-out
 cast-out c =
-    let h = few-compared _ _ (length (c .before .before .before .before .before .before .before .before .args .out .now)) (c .before .before .before .before .before .before .before .before .args .place) _ (sym (ap rhythmAnswer (c .before .before .c .given .1)) ∙ ap (λ (x : Outcome). x .answer) (c .before .before .before .before .rhythm-into .ensures)) in
+    let h = few-compared _ _ (length (c .before .before .before .before .before .before .before .before .before .args .out .now)) (c .before .before .before .before .before .before .before .before .before .args .place) _ _ (sym (ap rhythmAnswer (c .before .before .c .given .1)) ∙ ap (λ (x : Outcome). x .answer) (c .before .before .before .before .rhythm-into .ensures)) in
     omega (arith, h)
 
 int-to-float-out : tie.Need-int-to-float-out
@@ -39,27 +39,27 @@ int-to-float-out c = search needs
 
 slice-write-out-2 : tie.Need-slice-write-out-2
 slice-write-out-2 c =
-    let h = into-room rhythmWidth (length (c .before .before .before .before .before .before .before .before .before .args .out .now)) _ _ _ (no-detail _) (sym (ap rhythmAnswer (c .before .before .before .c .given .1)) ∙ ap (λ (x : Outcome). x .answer) (c .before .before .before .before .before .rhythm-into .ensures)) in
+    let h = into-room-as _ rhythmWidth (length (c .before .before .before .before .before .before .before .before .before .before .args .out .now)) _ _ _ (no-detail _) (sym (ap rhythmAnswer (c .before .before .before .c .given .1)) ∙ ap (λ (x : Outcome). x .answer) (c .before .before .before .before .before .rhythm-into .ensures)) in
     simp length-set (omega (arith, h))
 
 returns : tie.Need-returns
 returns c =
-    let a = c .before .before .before .before .before .before .before .before .args in
+    let a = c .before .before .before .before .before .before .before .before .before .args in
     let p = sym (ap rhythmAnswer (c .before .before .r .given .1)) ∙ ap (λ (x : Outcome). x .answer) (c .before .before .before .before .rhythm-into .ensures) in
-    (c .code .ensures ∙ ap answerCode p, (put-none (a .out .now) ∙ ap (λ (x : Answer). put 0 (numbersOf x) (a .out .now)) p, refl))
+    (c .code .ensures ∙ ap answerCode p, (put-none (a .out .now) ∙ ap (λ (x : Answer). put 0 (numbersOf x) (a .out .now)) p, (refl, refl)))
 
 same-length : tie.Need-same-length
 same-length c = search needs
 
 returns-2 : tie.Need-returns-2
 returns-2 c =
-    let a = c .before .before .before .before .before .before .before .before .before .args in
+    let a = c .before .before .before .before .before .before .before .before .before .before .args in
     let p = sym (ap rhythmAnswer (c .before .before .before .c .given .1)) ∙ ap (λ (x : Outcome). x .answer) (c .before .before .before .before .before .rhythm-into .ensures) in
-    let h = into-room rhythmWidth (length (a .out .now)) _ _ _ (no-detail _) p in
-    (ap answerCode p, (sets-put _ (a .out .now) 0 h ∙ ap (λ (x : Answer). put 0 (numbersOf x) (a .out .now)) p, refl))
+    let h = into-room-as _ rhythmWidth (length (a .out .now)) _ _ _ (no-detail _) p in
+    (ap answerCode p, (sets-put _ (a .out .now) 0 h ∙ ap (λ (x : Answer). put 0 (numbersOf x) (a .out .now)) p, (refl, refl)))
 
-pub difficulty-read-rhythm-spec : {M : Type 1} → statement M
-difficulty-read-rhythm-spec =
+pub difficulty-read-rhythm-as-spec : {M : Type 1} → statement M
+difficulty-read-rhythm-as-spec =
     tie.close
     (tie.spec
     rhythm-into-requires

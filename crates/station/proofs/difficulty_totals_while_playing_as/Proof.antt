@@ -1,12 +1,12 @@
--- `station::difficulty_totals_while_playing` meets its contract. Assumes nothing.
+-- `station::difficulty_totals_while_playing_as` meets its contract. Assumes nothing.
 use mathlib.Core.Path.{sym, ap, _∙_}
 use Rattle.station.specs.Codes.{verdictCode}
 use borrow.Author.Needs.{needs}
-use Rattle.station.proofs.difficulty_totals_while_playing.Statement.{statement}
-use Rattle.station.proofs.difficulty_totals_while_playing.Tie as tie
+use Rattle.station.proofs.difficulty_totals_while_playing_as.Statement.{statement}
+use Rattle.station.proofs.difficulty_totals_while_playing_as.Tie as tie
 
-totals-while-playing-requires : tie.Need-totals-while-playing-requires
-totals-while-playing-requires c κs = search needs
+totals-while-playing-as-requires : tie.Need-totals-while-playing-as-requires
+totals-while-playing-as-requires c κs = search needs
 
 enum-known-r : tie.Need-enum-known-r
 enum-known-r c = search needs
@@ -34,8 +34,8 @@ same-length-5 c = search needs
 
 returns : tie.Need-returns
 returns c =
-    let e = c .before .before .before .before .before .before .before .before .before .before .before .before .before .before .totals-while-playing .ensures in
-    (c .code .ensures ∙ ap verdictCode (sym (c .before .before .r .given .1) ∙ e .0), (e .1 .0, (e .1 .1 .0, e .1 .1 .1)))
+    let e = c .before .before .before .before .before .before .before .before .before .before .before .before .before .before .totals-while-playing-as .ensures in
+    (c .code .ensures ∙ ap verdictCode (sym (c .before .before .r .given .1) ∙ e .0), e .1)
 
 same-length-6 : tie.Need-same-length-6
 same-length-6 c = search needs
@@ -54,14 +54,14 @@ same-length-10 c = search needs
 
 returns-2 : tie.Need-returns-2
 returns-2 c =
-    let e = c .before .before .before .before .before .before .before .before .before .before .before .before .totals-while-playing .ensures in
-    (ap verdictCode (sym (c .enum-told .given .1) ∙ e .0), (e .1 .0, (e .1 .1 .0, e .1 .1 .1)))
+    let e = c .before .before .before .before .before .before .before .before .before .before .before .before .totals-while-playing-as .ensures in
+    (ap verdictCode (sym (c .enum-told .given .1) ∙ e .0), e .1)
 
-pub difficulty-totals-while-playing-spec : {M : Type 1} → statement M
-difficulty-totals-while-playing-spec =
+pub difficulty-totals-while-playing-as-spec : {M : Type 1} → statement M
+difficulty-totals-while-playing-as-spec =
     tie.close
     (tie.spec
-    totals-while-playing-requires
+    totals-while-playing-as-requires
     enum-known-r
     code-requires
     enum-told

@@ -12,12 +12,12 @@ refuse-sums-requires c κs = search needs
 
 returns : tie.Need-returns
 returns c =
-    let a = c .before .before .before .before .before .before .before .before .args in
-    let h = figure-short (ratings (a .asked)) (a .cramped) (scratchOf (a .aim .now) (a .aim-no-sliders .now) (a .speed .now) (a .flashlight .now)) (a .chart .now) (a .values .now) (c .before .if1 .taken) _ (c .refuse-sums .ensures) in
+    let a = c .before .before .before .before .before .before .before .before .before .args in
+    let h = figure-short (a .settings .now) (ratings (a .asked)) (a .cramped) (scratchOf (a .aim .now) (a .aim-no-sliders .now) (a .speed .now) (a .flashlight .now)) (a .chart .now) (a .values .now) (c .before .if1 .taken) _ (c .refuse-sums .ensures) in
     (sym (h .0), sym (h .1))
 
-ratings-requires : tie.Need-ratings-requires
-ratings-requires c κs = search needs
+ratings-as-requires : tie.Need-ratings-as-requires
+ratings-as-requires c κs = search needs
 
 same-length : tie.Need-same-length
 same-length c = search needs
@@ -33,9 +33,9 @@ same-length-4 c = search needs
 
 returns-2 : tie.Need-returns-2
 returns-2 c =
-    let a = c .before .before .before .before .before .before .before .before .before .before .before .before .before .before .before .before .before .before .before .before .args in
-    let h = figure-long (ratings (a .asked)) (a .cramped) (scratchOf (a .aim .now) (a .aim-no-sliders .now) (a .speed .now) (a .flashlight .now)) (a .chart .now) (a .values .now) (c .before .before .before .before .before .before .before .before .before .before .before .before .before .if1 .left) in
-    (c .before .before .before .before .before .before .before .before .ratings .ensures .0 ∙ sym (h .0), c .before .before .before .before .before .before .before .before .ratings .ensures .1 ∙ sym (h .1))
+    let a = c .before .before .before .before .before .before .before .before .before .before .before .before .before .before .before .before .before .before .before .before .before .args in
+    let h = figure-long (a .settings .now) (ratings (a .asked)) (a .cramped) (scratchOf (a .aim .now) (a .aim-no-sliders .now) (a .speed .now) (a .flashlight .now)) (a .chart .now) (a .values .now) (c .before .before .before .before .before .before .before .before .before .before .before .before .before .if1 .left) in
+    (c .before .before .before .before .before .before .before .before .ratings-as .ensures .0 ∙ sym (h .0), c .before .before .before .before .before .before .before .before .ratings-as .ensures .1 .0 ∙ sym (h .1))
 
 pub ratings-into-spec : {M : Type 1} → statement M
 ratings-into-spec =
@@ -43,7 +43,7 @@ ratings-into-spec =
     (tie.spec
     refuse-sums-requires
     returns
-    ratings-requires
+    ratings-as-requires
     same-length
     same-length-2
     same-length-3

@@ -1,12 +1,13 @@
 -- `station::refuse_sums` meets its contract. Assumes nothing.
 use mathlib.Core.Path.{sym, _∙_}
-use Rattle.calls.proofs.Refusals.{sum-refused, sum-passed}
+use mathlib.Core.Bool.{true}
+use Rattle.figures.proofs.Outcomes.{sums-refused, sums-passed}
 use borrow.Author.Needs.{needs}
 use Rattle.station.proofs.refuse_sums.Statement.{statement}
 use Rattle.station.proofs.refuse_sums.Tie as tie
 
-check-requires : tie.Need-check-requires
-check-requires c κs = search needs
+check-as-requires : tie.Need-check-as-requires
+check-as-requires c κs = search needs
 
 enum-known-r : tie.Need-enum-known-r
 enum-known-r c = search needs
@@ -15,10 +16,14 @@ enum-told : tie.Need-enum-told
 enum-told c = search needs
 
 returns : tie.Need-returns
-returns c = sym (sum-refused _ _ _ _ (sym (c .before .before .before .check .ensures) ∙ c .before .r .given .1))
+returns c =
+    let a = c .before .before .before .before .before .before .args in
+    sym (sums-refused (a .settings .now) (a .chart .now) (a .entries) true _ (sym (c .before .before .before .check-as .ensures) ∙ c .before .r .given .1))
 
 returns-2 : tie.Need-returns-2
-returns-2 c = sym (sum-passed _ _ _ (sym (c .before .before .check .ensures) ∙ c .enum-told .given .1))
+returns-2 c =
+    let a = c .before .before .before .before .before .args in
+    sym (sums-passed (a .settings .now) (a .chart .now) (a .entries) true (sym (c .before .before .check-as .ensures) ∙ c .enum-told .given .1))
 
 pub refuse-sums-spec : {M : Type 1} → statement M
-refuse-sums-spec = tie.close (tie.spec check-requires enum-known-r enum-told returns returns-2)
+refuse-sums-spec = tie.close (tie.spec check-as-requires enum-known-r enum-told returns returns-2)

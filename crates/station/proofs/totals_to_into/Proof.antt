@@ -12,12 +12,12 @@ refuse-sums-requires c κs = search needs
 
 returns : tie.Need-returns
 returns c =
-    let a = c .before .before .before .before .before .before .before .before .args in
-    let h = figure-short (totalsTo (a .m)) (a .cramped) (scratchOf (a .aim .now) (a .aim-no-sliders .now) (a .speed .now) (a .flashlight .now)) (a .chart .now) (a .values .now) (c .before .if1 .taken) _ (c .refuse-sums .ensures) in
+    let a = c .before .before .before .before .before .before .before .before .before .args in
+    let h = figure-short (a .settings .now) (totalsTo (a .m)) (a .cramped) (scratchOf (a .aim .now) (a .aim-no-sliders .now) (a .speed .now) (a .flashlight .now)) (a .chart .now) (a .values .now) (c .before .if1 .taken) _ (c .refuse-sums .ensures) in
     (sym (h .0), sym (h .1))
 
-totals-to-requires : tie.Need-totals-to-requires
-totals-to-requires c κs = search needs
+totals-to-as-requires : tie.Need-totals-to-as-requires
+totals-to-as-requires c κs = search needs
 
 same-length : tie.Need-same-length
 same-length c = search needs
@@ -33,9 +33,9 @@ same-length-4 c = search needs
 
 returns-2 : tie.Need-returns-2
 returns-2 c =
-    let a = c .before .before .before .before .before .before .before .before .before .before .before .before .before .before .before .before .before .before .before .before .args in
-    let h = figure-long (totalsTo (a .m)) (a .cramped) (scratchOf (a .aim .now) (a .aim-no-sliders .now) (a .speed .now) (a .flashlight .now)) (a .chart .now) (a .values .now) (c .before .before .before .before .before .before .before .before .before .before .before .before .before .if1 .left) in
-    (c .before .before .before .before .before .before .before .before .totals-to .ensures .0 ∙ sym (h .0), c .before .before .before .before .before .before .before .before .totals-to .ensures .1 ∙ sym (h .1))
+    let a = c .before .before .before .before .before .before .before .before .before .before .before .before .before .before .before .before .before .before .before .before .before .args in
+    let h = figure-long (a .settings .now) (totalsTo (a .m)) (a .cramped) (scratchOf (a .aim .now) (a .aim-no-sliders .now) (a .speed .now) (a .flashlight .now)) (a .chart .now) (a .values .now) (c .before .before .before .before .before .before .before .before .before .before .before .before .before .if1 .left) in
+    (c .before .before .before .before .before .before .before .before .totals-to-as .ensures .0 ∙ sym (h .0), c .before .before .before .before .before .before .before .before .totals-to-as .ensures .1 .0 ∙ sym (h .1))
 
 pub totals-to-into-spec : {M : Type 1} → statement M
 totals-to-into-spec =
@@ -43,7 +43,7 @@ totals-to-into-spec =
     (tie.spec
     refuse-sums-requires
     returns
-    totals-to-requires
+    totals-to-as-requires
     same-length
     same-length-2
     same-length-3

@@ -1,0 +1,5 @@
+pub mod Checks
+pub mod Rated
+pub mod Lists
+pub mod Joined
+pub mod Theorems

@@ -1,0 +1,78 @@
+-- `station::difficulty_counts` meets its contract: the header has the settings. Assumes nothing.
+use mathlib.Core.Path.{refl, sym, ap, _∙_}
+use mathlib.Core.List.{[]}
+use lib.ListN.{length}
+use Rattle.num_tables.specs.Parts.{part, put}
+use Rattle.calls.specs.Calls.{Answer, Outcome, refuse, state}
+use lib.Dec.{ltb}
+use Rattle.calls.specs.Tables.{totalsWidth}
+use Rattle.calls.specs.Afresh.{totals, totalsTo, counts, ratings}
+use Rattle.figures.specs.Answers.{scratchOf}
+use Rattle.station.specs.Codes.{answerCode, numbersOf, countsWidth, askedOf, ratingsCramped}
+use Rattle.station.proofs.Rooms.{put-none, short-figure, own-figure}
+use borrow.Author.Needs.{needs}
+use Rattle.station.proofs.difficulty_counts.Statement.{statement}
+use Rattle.station.proofs.difficulty_counts.Tie as tie
+
+code-requires : tie.Need-code-requires
+code-requires c κs = search needs
+
+returns : tie.Need-returns
+returns c =
+    let a = c .before .before .before .before .before .before .before .before .before .args in
+    let h = short-figure counts (ltb (length (a .out .now)) countsWidth) (scratchOf (a .aim .now) (a .aim-no-sliders .now) (a .speed .now) (a .flashlight .now)) (a .chart .now) (a .values .now) (c .before .if1 .taken) in
+    let p = sym (ap (λ (x : Outcome). x .answer) (h .0)) in
+    (c .code .ensures ∙ ap answerCode p, (sym (h .1), (put-none (a .out .now) ∙ ap (λ (x : Answer). put 0 (numbersOf x) (a .out .now)) p, refl)))
+
+sub-difficulty-counts-as : tie.Need-sub-difficulty-counts-as
+sub-difficulty-counts-as c = search needs
+
+part-difficulty-counts-as-start : tie.Need-part-difficulty-counts-as-start
+part-difficulty-counts-as-start c = search needs
+
+part-difficulty-counts-as-end : tie.Need-part-difficulty-counts-as-end
+part-difficulty-counts-as-end c = search needs
+
+difficulty-counts-as-requires : tie.Need-difficulty-counts-as-requires
+difficulty-counts-as-requires c κs = search needs
+
+same-length : tie.Need-same-length
+same-length c = search needs
+
+same-length-2 : tie.Need-same-length-2
+same-length-2 c = search needs
+
+same-length-3 : tie.Need-same-length-3
+same-length-3 c = search needs
+
+same-length-4 : tie.Need-same-length-4
+same-length-4 c = search needs
+
+same-length-5 : tie.Need-same-length-5
+same-length-5 c = search needs
+
+returns-2 : tie.Need-returns-2
+unfolding part
+returns-2 c =
+    let a = c .before .before .before .before .before .before .before .before .before .before .before .before .before .before .before .before .before .before .before .before .before .before .before .before .before .args in
+    let h = own-figure counts (ltb (length (a .out .now)) countsWidth) (scratchOf (a .aim .now) (a .aim-no-sliders .now) (a .speed .now) (a .flashlight .now)) (a .chart .now) (a .values .now) (c .before .before .before .before .before .before .before .before .before .before .before .before .before .before .before .before .before .if1 .left) in
+    let p = ap (λ (x : Outcome). x .answer) (h .0) in
+    let e = c .before .before .before .before .before .before .before .before .before .before .difficulty-counts-as .ensures in
+    (e .0 ∙ ap answerCode p, (e .1 .0 ∙ h .1, (e .1 .1 .0 ∙ ap (λ (x : Answer). put 0 (numbersOf x) (a .out .now)) p, refl)))
+
+pub difficulty-counts-spec : {M : Type 1} → statement M
+difficulty-counts-spec =
+    tie.close
+    (tie.spec
+    code-requires
+    returns
+    sub-difficulty-counts-as
+    part-difficulty-counts-as-start
+    part-difficulty-counts-as-end
+    difficulty-counts-as-requires
+    same-length
+    same-length-2
+    same-length-3
+    same-length-4
+    same-length-5
+    returns-2)

@@ -1,0 +1,59 @@
+-- `station::difficulty_read_values` meets its contract: the header has the settings. Assumes nothing.
+use mathlib.Core.Path.{refl, sym, ap, _∙_}
+use mathlib.Core.List.{[]}
+use lib.ListN.{length}
+use Rattle.num_tables.specs.Parts.{part, put}
+use Rattle.calls.specs.Calls.{Answer, Outcome, refuse, state}
+use Rattle.calls.specs.Conditions.{readValues}
+use Rattle.calls_players.specs.Statement.{Reads}
+use Rattle.station.specs.Codes.{answerCode, numbersOf}
+use Rattle.station.proofs.Rooms.{put-none, short-into, own-into}
+use borrow.Author.Needs.{needs}
+use Rattle.station.proofs.difficulty_read_values.Statement.{statement}
+use Rattle.station.proofs.difficulty_read_values.Tie as tie
+
+code-requires : tie.Need-code-requires
+code-requires c κs = search needs
+
+returns : tie.Need-returns
+unfolding refuse
+returns c =
+    let a = c .before .before .before .before .before .args in
+    let p = sym (ap (λ (x : Outcome). x .answer) (short-into 5 (length (a .out .now)) (readValues (a .place)) (state (a .chart .now) [] (a .values .now)) (c .before .if1 .taken))) in
+    (c .code .ensures ∙ ap answerCode p, (put-none (a .out .now) ∙ ap (λ (x : Answer). put 0 (numbersOf x) (a .out .now)) p, refl))
+
+sub-difficulty-read-values-as : tie.Need-sub-difficulty-read-values-as
+sub-difficulty-read-values-as c = search needs
+
+part-difficulty-read-values-as-start : tie.Need-part-difficulty-read-values-as-start
+part-difficulty-read-values-as-start c = search needs
+
+part-difficulty-read-values-as-end : tie.Need-part-difficulty-read-values-as-end
+part-difficulty-read-values-as-end c = search needs
+
+difficulty-read-values-as-requires : tie.Need-difficulty-read-values-as-requires
+difficulty-read-values-as-requires c κs = search needs
+
+same-length : tie.Need-same-length
+same-length c = search needs
+
+returns-2 : tie.Need-returns-2
+unfolding part Reads
+returns-2 c =
+    let a = c .before .before .before .before .before .before .before .before .before .args in
+    let p = ap (λ (x : Outcome). x .answer) (own-into 5 (length (a .out .now)) (readValues (a .place)) (state (a .chart .now) [] (a .values .now)) (c .before .before .before .before .before .if1 .left) tt) in
+    let e = c .before .before .difficulty-read-values-as .ensures in
+    (e .0 ∙ ap answerCode p, (e .1 .0 ∙ ap (λ (x : Answer). put 0 (numbersOf x) (a .out .now)) p, refl))
+
+pub difficulty-read-values-spec : {M : Type 1} → statement M
+difficulty-read-values-spec =
+    tie.close
+    (tie.spec
+    code-requires
+    returns
+    sub-difficulty-read-values-as
+    part-difficulty-read-values-as-start
+    part-difficulty-read-values-as-end
+    difficulty-read-values-as-requires
+    same-length
+    returns-2)

@@ -1,0 +1,404 @@
+// Ranks lists of offsets into packs. Standard input has for each pack its length and bytes, the number of requests, and for each request its kind:
+//   0 rank, 1 join: how many offsets the first list has, what comes with the call (48 bytes, as the rater reads them), the number of offsets, the offsets
+//     (u64), the lengths of the record and the value table, four lengths of scratch
+//   2 what an entry of both tables holds: its place
+// Whole numbers without a size are u32, all is little-endian. Every answer is a line. The tables stay from request to request of a pack.
+ghost use Prim.Native.Nat.{_+_, _*_, _≤_};
+ghost use lib.ListN.{length};
+use chart_opening::Verdict;
+use rating::Mods;
+use star_rating::Asked;
+
+// Packs that are read at most, and requests of a pack.
+const MOST: usize = 65536;
+
+// Entries of each table.
+const ENTRIES: usize = 256;
+
+// What tables and scratch hold before the first call.
+const UNUSED: f64 = 7.5;
+
+// An offset as a number of 64 bits.
+fn wide(x: usize) -> u64 {
+    x as u64
+}
+
+// The next step of a 64-bit FNV-1a hash: h ^ w times 2^40 + 0x1B3, by 2^64.
+fn hashed(h: u64, w: u64) -> u64 {
+    let x = h ^ w;
+    let low = x % 0x1_0000_0000 * 0x1B3;
+    let top = x / 0x1_0000_0000 % 0x1_0000_0000 * 0x1B3 % 0x1_0000_0000;
+    let high = top * 0x1_0000_0000;
+    let shifted = x % 0x100_0000 * 0x100_0000_0000;
+    std::num::wrapping_add_u64(std::num::wrapping_add_u64(low, high), shifted)
+}
+
+// The FNV-1a hash of a list.
+fn hash_list(list: &[usize]) -> u64 {
+    let mut h = 0xCBF2_9CE4_8422_2325;
+    let mut i = 0;
+    while i < list.len() {
+        h = hashed(h, wide(list[i]));
+        i += 1;
+    }
+    h
+}
+
+// A hash goes on over the bits of a table.
+fn hash_table(from: u64, table: &[f64]) -> u64 {
+    let mut h = from;
+    let mut i = 0;
+    while i < table.len() {
+        h = hashed(h, num_floats::bits_of_f64(table[i]));
+        i += 1;
+    }
+    h
+}
+
+// Fills a table or scratch with what is unused.
+fn mark(table: &mut [f64]) {
+    let mut i = 0;
+    while i < table.len() {
+        table[i] = UNUSED;
+        i += 1;
+    }
+}
+
+// Whether all numbers have these bits.
+fn holds(table: &[f64], bits: u64) -> bool {
+    let mut i = 0;
+    while i < table.len() {
+        if num_floats::bits_of_f64(table[i]) != bits {
+            return false;
+        }
+        i += 1;
+    }
+    true
+}
+
+// Reads a number of offsets and the offsets into the list.
+fn read_offsets(list: &mut [usize]) -> usize
+    ensures { λ r. ⌜ r ≤ length (now (list .entry)) ⌝ }
+{
+    let n = text::next_length(list.len());
+    let mut i = 0;
+    while i < n {
+        list[i] = text::next_long() as usize;
+        i += 1;
+    }
+    n
+}
+
+// Reads what comes with a call.
+fn read_asked() -> Asked {
+    let mut s = [0u8; 48];
+    io::read_full(0, &mut s[..]);
+    let given = num_floats::u32_at(&s[..], 4);
+    let mods = Mods::from_word(
+        num_floats::u32_at(&s[..], 0),
+        given % 2 == 1,
+        num_floats::f64_at(&s[..], 32),
+        given / 2 % 2 == 1,
+        num_floats::f64_at(&s[..], 40),
+    );
+    Asked {
+        mods: mods,
+        approach_rate: num_floats::f64_at(&s[..], 8),
+        overall_difficulty: num_floats::f64_at(&s[..], 16),
+        base_multiplier: num_floats::f64_at(&s[..], 24),
+    }
+}
+
+// The offset of a list's end, with a space before each offset.
+fn put_offsets(out: &mut [u8], at: usize, list: &[usize]) -> usize {
+    let mut end = at;
+    let mut i = 0;
+    while i < list.len() {
+        end = text::put(out, end, b' ');
+        end = text::put_decimal(out, end, wide(list[i]));
+        i += 1;
+    }
+    end
+}
+
+// The line of a ranking: the listing, or the refusal; and a line where it changed what it must not.
+fn put_verdict(out: &mut [u8], v: Verdict, list: &[usize], same: bool, zero: bool) -> usize {
+    match v {
+        Verdict::Accepted => {
+            let word = text::put_all(out, 0, b"listing");
+            let offsets = put_offsets(out, word, list);
+            let end = text::put(out, offsets, b'\n');
+            if zero {
+                return end;
+            }
+            text::put_all(out, end, b"scratch not cleared\n")
+        }
+        Verdict::Refused(r) => {
+            let end = lines::put_refusal(out, 0, r);
+            if same {
+                return end;
+            }
+            text::put_all(out, end, b"changed by a refused call\n")
+        }
+    }
+}
+
+// Ranks a list or joins two.
+fn carry_out(
+    kind: usize,
+    pack: &[u8],
+    list: &mut [usize],
+    first: usize,
+    asked: Asked,
+    records: &mut [f64],
+    values: &mut [f64],
+    a: &mut [f64],
+    b: &mut [f64],
+    c: &mut [f64],
+    d: &mut [f64],
+) -> Verdict {
+    if kind == 1 {
+        return pack::join(pack, list, first, asked, records, values, a, b, c, d);
+    }
+    pack::rank(pack, list, asked, records, values, a, b, c, d)
+}
+
+// A hash of list and tables.
+fn hash_all(list: &[usize], records: &[f64], values: &[f64]) -> u64 {
+    hash_table(hash_table(hash_list(list), records), values)
+}
+
+// Fills all scratch with what is unused.
+fn mark_all(a: &mut [f64], b: &mut [f64], c: &mut [f64], d: &mut [f64]) {
+    mark(a);
+    mark(b);
+    mark(c);
+    mark(d);
+}
+
+// Whether all scratch has these bits.
+fn all_hold(a: &[f64], b: &[f64], c: &[f64], d: &[f64], bits: u64) -> bool {
+    holds(a, bits) & (holds(b, bits) & (holds(c, bits) & holds(d, bits)))
+}
+
+// Ranks a list with tables and scratch as they are lent, and puts the line.
+fn rank_with(
+    out: &mut [u8],
+    kind: usize,
+    pack: &[u8],
+    list: &mut [usize],
+    first: usize,
+    asked: Asked,
+    records: &mut [f64],
+    values: &mut [f64],
+    a: &mut [f64],
+    b: &mut [f64],
+    c: &mut [f64],
+    d: &mut [f64],
+) -> usize {
+    let before = hash_all(list, records, values);
+    let v = carry_out(kind, pack, list, first, asked, records, values, a, b, c, d);
+    let same = before == hash_all(list, records, values);
+    let unused = all_hold(a, b, c, d, num_floats::bits_of_f64(UNUSED));
+    let zero = all_hold(a, b, c, d, 0);
+    put_verdict(out, v, list, same & unused, zero)
+}
+
+// Reads the lengths of tables and scratch, and ranks a list with as much.
+fn rank_lent(
+    out: &mut [u8],
+    kind: usize,
+    pack: &[u8],
+    list: &mut [usize],
+    first: usize,
+    asked: Asked,
+    records: &mut [f64],
+    values: &mut [f64],
+    a: &mut [f64],
+    b: &mut [f64],
+    c: &mut [f64],
+    d: &mut [f64],
+) -> usize {
+    let r = text::next_length(records.len());
+    let v = text::next_length(values.len());
+    let x = text::next_length(a.len());
+    let y = text::next_length(b.len());
+    let z = text::next_length(c.len());
+    let w = text::next_length(d.len());
+    rank_with(
+        out,
+        kind,
+        pack,
+        list,
+        first,
+        asked,
+        &mut records[0..r],
+        &mut values[0..v],
+        &mut a[0..x],
+        &mut b[0..y],
+        &mut c[0..z],
+        &mut d[0..w],
+    )
+}
+
+// Reads a request to rank, and puts its line.
+fn rank(
+    out: &mut [u8],
+    kind: usize,
+    pack: &[u8],
+    list: &mut [usize],
+    records: &mut [f64],
+    values: &mut [f64],
+    a: &mut [f64],
+    b: &mut [f64],
+    c: &mut [f64],
+    d: &mut [f64],
+) -> usize {
+    let first = text::next_word();
+    let asked = read_asked();
+    let n = read_offsets(list);
+    mark_all(a, b, c, d);
+    rank_lent(
+        out,
+        kind,
+        pack,
+        &mut list[0..n],
+        first,
+        asked,
+        records,
+        values,
+        a,
+        b,
+        c,
+        d,
+    )
+}
+
+// The offset of the line's end before an offset.
+fn line_end(at: usize) -> usize {
+    if 0 < at { at - 1 } else { 0 }
+}
+
+// The numbers of an entry of both tables.
+fn put_numbers(out: &mut [u8], at: usize, place: usize, records: &[f64], values: &[f64]) -> usize
+    requires { ⌜ (place ≤ 256) × (16 * place + 16 ≤ length (now records)) × (5 * place + 5 ≤ length (now values)) ⌝ }
+{
+    let line = lines::put_record(out, at, place, osu_records::record_at(records, place));
+    let x = eval_values::row_at(values, place);
+    let aim = lines::put_f64(out, line_end(line), x.aim);
+    let aim_no_sliders = lines::put_f64(out, aim, x.aim_no_sliders);
+    let speed = lines::put_f64(out, aim_no_sliders, x.speed);
+    let rhythm = lines::put_f64(out, speed, x.rhythm);
+    let flashlight = lines::put_f64(out, rhythm, x.flashlight);
+    text::put(out, flashlight, b'\n')
+}
+
+// What an entry of both tables holds, or that it was never written.
+fn put_entry(out: &mut [u8], place: usize, records: &[f64], values: &[f64]) -> usize
+    requires { ⌜ place ≤ 256 ⌝ }
+{
+    let word = text::put_all(out, 0, b"entry ");
+    let r = calls::RECORD_WIDTH * place;
+    if records.len() < r + calls::RECORD_WIDTH {
+        return word;
+    }
+    if values.len() < calls::VALUE_WIDTH * place + calls::VALUE_WIDTH {
+        return word;
+    }
+    let unused = num_floats::bits_of_f64(UNUSED);
+    if holds(&records[r..r + calls::RECORD_WIDTH], unused) {
+        let end = text::put_decimal(out, word, wide(place));
+        return text::put_all(out, end, b" kept\n");
+    }
+    put_numbers(out, word, place, records, values)
+}
+
+// Answers one request.
+fn answer(
+    out: &mut [u8],
+    pack: &[u8],
+    list: &mut [usize],
+    records: &mut [f64],
+    values: &mut [f64],
+    a: &mut [f64],
+    b: &mut [f64],
+    c: &mut [f64],
+    d: &mut [f64],
+) {
+    let kind = text::next_word();
+    if kind == 2 {
+        let end = put_entry(out, text::next_length(ENTRIES), records, values);
+        text::show(out, end);
+        return;
+    }
+    let end = rank(out, kind, pack, list, records, values, a, b, c, d);
+    text::show(out, end);
+}
+
+// Answers the requests of a pack.
+fn answers(
+    out: &mut [u8],
+    pack: &[u8],
+    list: &mut [usize],
+    records: &mut [f64],
+    values: &mut [f64],
+    a: &mut [f64],
+    b: &mut [f64],
+    c: &mut [f64],
+    d: &mut [f64],
+) {
+    let mut left = text::next_length(MOST);
+    mark(records);
+    mark(values);
+    while 0 < left {
+        answer(out, pack, list, records, values, a, b, c, d);
+        left -= 1;
+    }
+}
+
+// Reads the packs and answers their requests.
+fn run(
+    out: &mut [u8],
+    pack: &mut [u8],
+    list: &mut [usize],
+    records: &mut [f64],
+    values: &mut [f64],
+    a: &mut [f64],
+    b: &mut [f64],
+    c: &mut [f64],
+    d: &mut [f64],
+) {
+    let mut left = MOST;
+    while 0 < left {
+        let n = text::read_chart(pack);
+        if n <= pack.len() {
+            answers(out, &pack[0..n], list, records, values, a, b, c, d);
+            left -= 1;
+        } else {
+            left = 0;
+        }
+    }
+}
+
+fn main() {
+    let mut pack = [0u8; 65536];
+    let mut list = [0usize; 512];
+    let mut records = [0.0f64; 4096];
+    let mut values = [0.0f64; 1280];
+    let mut a = [0.0f64; 9000];
+    let mut b = [0.0f64; 9000];
+    let mut c = [0.0f64; 9000];
+    let mut d = [0.0f64; 9000];
+    let mut out = [0u8; 65536];
+    run(
+        &mut out[..],
+        &mut pack[..],
+        &mut list[..],
+        &mut records[..],
+        &mut values[..],
+        &mut a[..],
+        &mut b[..],
+        &mut c[..],
+        &mut d[..],
+    );
+}
