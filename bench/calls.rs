@@ -1,5 +1,5 @@
 //! Microseconds of each call on charts of several sizes, lower quartile of the runs. Insertions and removals stand beside what it takes to move as many bytes of
-//! the chart and rows of the tables by the standard library's functions; the totals while playing, counts and ratings beside the totals. Where a folder with the oracle's programs is named as the argument, their
+//! the chart and rows of the tables by the standard library's functions; the totals while playing, counts and ratings beside the totals; a replacement for two players beside one for the first. Where a folder with the oracle's programs is named as the argument, their
 //! times on the same charts stand beside: `source` works out the records and the four skills' totals, as opening and totals do. There ours and both of the oracle's programs take turns; each
 //! turn has its best run by the wall's clock, and the lower quartile of the turns is told, with the spread of the turns.
 mod charts;
@@ -159,11 +159,31 @@ fn figures_of(s: &mut Station, totals: f64) -> String {
     )
 }
 
+/// The line of replacements for both players, the second at double speed, beside those for the first: in turns, at 0, N/2 and N-1.
+fn players_of(s: &mut Station) -> String {
+    let mut settings = s.chart[32..80].to_vec();
+    let clock = f64::from_le_bytes(settings[..8].try_into().unwrap());
+    put(&mut settings, 0, &(2.0 * clock).to_le_bytes());
+    let (mut records, mut values) = (s.records.clone(), s.values.clone());
+    station::open_as(&s.chart, &settings, &mut records, &mut values).unwrap();
+    let times = [0, s.n / 2, s.n - 1].map(|place| quartiles(|turn| {
+        let one = timed(|| s.replace(place, turn));
+        let object = s.chart[80 + OBJECT * place..][..OBJECT].to_vec();
+        let both = timed(|| {
+            station::replace_both(&mut s.chart, &settings, place, &object, &mut s.records, &mut s.values, &mut records, &mut values).unwrap()
+        });
+        [one, both]
+    }));
+    let over = times.iter().map(|[one, both]| both / one).fold(0.0, f64::max);
+    let three = |k: usize| times.map(|t| format!("{:>8.1}", t[k])).join(", ");
+    format!("{:>6} {} {} {over:>10.2}", s.n, three(0), three(1))
+}
+
 fn main() {
     let folder = std::env::args().nth(1);
     println!("microseconds of processor time, lower quartile of the runs");
     println!("{:>6} {:>10} {:>8} {:>10} {:>10} {:>10} {:>9} {:>8} {:>8} {:>8}", "N", "open", "per N", "replace 0", "at N/2", "at N-1", "readings", "totals", "per N", "open/rep");
-    let (mut stations, mut edits, mut figures) = (vec![], vec![], vec![]);
+    let (mut stations, mut edits, mut figures, mut players) = (vec![], vec![], vec![], vec![]);
     for n in SIZES {
         let mut s = Station::new(n);
         let open = quartile(|_| s.open());
@@ -177,6 +197,7 @@ fn main() {
         );
         figures.push(figures_of(&mut s, totals));
         edits.push(edits_of(&mut s, open, replace));
+        players.push(players_of(&mut s));
         stations.push(s);
     }
     println!("each at 0, N/2 and N-1; an edit over a replacement at its place and the moves: the largest");
@@ -185,6 +206,9 @@ fn main() {
     println!("over all values; each over the totals of the same chart");
     println!("{:>6} {:>10} {:>10} {:>7} {:>10} {:>7} {:>12} {:>7} {:>8}", "N", "totals", "counts", "over", "ratings", "over", "playing", "over", "per N");
     figures.iter().for_each(|line| println!("{line}"));
+    println!("replacements for one player and for both, each at 0, N/2 and N-1; both over one: the largest");
+    println!("{:>6} {:>28} {:>28} {:>10}", "N", "one", "both", "over");
+    players.iter().for_each(|line| println!("{line}"));
     let Some(folder) = folder else {
         println!("no folder with the oracle's programs was named: no comparison");
         return;
