@@ -7,6 +7,7 @@ A list is a row of steps, little-endian, each a u32 that says which and what fol
   3 call: the number of the call in CALLS (u32), its arguments (u64 each), an address for a pointer. The answer (u64) is put to the case's answers
   4 show: address and length (u32); the bytes there are put to the case's answers
 """
+import random
 import struct
 
 import chart
@@ -176,7 +177,7 @@ def of_chart(r, name, b):
         case.call("read_values", lent, values, place)
     figures(r, case, (lent, values), n)
     edits(r, case, b, n)
-    second_player(r, case, b, n)
+    second_player(random.Random(name), case, b, n)
     return case
 
 
