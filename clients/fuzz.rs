@@ -247,6 +247,16 @@ struct Counts {
     compared: u64,
 }
 
+impl Counts {
+    fn print(&self, seed: u64, rounds: u64) {
+        let [open, replace, insert, remove, record, value, parts, rhythm, totals, counted, reached, playing, ratings] = self.calls;
+        println!("seed {seed}: {rounds} charts; open {open}, replace {replace}, insert {insert}, remove {remove}");
+        println!("read record {record}, read values {value}, read aim parts {parts}, read rhythm {rhythm}");
+        println!("totals {totals}, counts {counted}, totals to {reached}, totals while playing {playing}, ratings {ratings}");
+        println!("carried out {}, refused by number {:?}; {} of those carried out were on the chart's own tables", self.refused[0], &self.refused[1..], self.compared);
+    }
+}
+
 struct Round {
     chart: Vec<u8>,
     records: Vec<f64>,
@@ -667,10 +677,6 @@ fn main() {
         std::fs::write(format!("{folder}/scripts"), script).unwrap();
         std::fs::write(format!("{folder}/answers"), answers).unwrap();
     }
-    let [open, replace, insert, remove, record, value, parts, rhythm, totals, counted, reached, playing, ratings] = counts.calls;
-    println!("seed {seed}: {rounds} charts; open {open}, replace {replace}, insert {insert}, remove {remove}");
-    println!("read record {record}, read values {value}, read aim parts {parts}, read rhythm {rhythm}");
-    println!("totals {totals}, counts {counted}, totals to {reached}, totals while playing {playing}, ratings {ratings}");
-    println!("carried out {}, refused by number {:?}; {} of those carried out were on the chart's own tables", counts.refused[0], &counts.refused[1..], counts.compared);
+    counts.print(seed, rounds);
     two_players(&mut r, calls / 4, scratch);
 }
