@@ -179,6 +179,12 @@ fn players_of(s: &mut Station) -> String {
     format!("{:>6} {} {} {over:>10.2}", s.n, three(0), three(1))
 }
 
+fn print_players(lines: &[String]) {
+    println!("replacements for one player and for both, each at 0, N/2 and N-1; both over one: the largest");
+    println!("{:>6} {:>28} {:>28} {:>10}", "N", "one", "both", "over");
+    lines.iter().for_each(|line| println!("{line}"));
+}
+
 fn main() {
     let folder = std::env::args().nth(1);
     println!("microseconds of processor time, lower quartile of the runs");
@@ -206,9 +212,7 @@ fn main() {
     println!("over all values; each over the totals of the same chart");
     println!("{:>6} {:>10} {:>10} {:>7} {:>10} {:>7} {:>12} {:>7} {:>8}", "N", "totals", "counts", "over", "ratings", "over", "playing", "over", "per N");
     figures.iter().for_each(|line| println!("{line}"));
-    println!("replacements for one player and for both, each at 0, N/2 and N-1; both over one: the largest");
-    println!("{:>6} {:>28} {:>28} {:>10}", "N", "one", "both", "over");
-    players.iter().for_each(|line| println!("{line}"));
+    print_players(&players);
     let Some(folder) = folder else {
         println!("no folder with the oracle's programs was named: no comparison");
         return;
