@@ -1,16 +1,15 @@
 //! Microseconds of each call on charts of several sizes, lower quartile of the runs. Insertions and removals stand beside what it takes to move as many bytes of
 //! the chart and rows of the tables by the standard library's functions; the totals while playing, counts and ratings beside the totals; a replacement for two players beside one for the first. Where a folder with the oracle's programs is named as the argument, their
-//! times on the same charts stand beside: `source` works out the records and the four skills' totals, as opening and totals do. There ours and both of the oracle's programs take turns; each
-//! turn has its best run by the wall's clock, and the lower quartile of the turns is told, with the spread of the turns.
+//! times on the same charts stand beside: `source` works out the records and the four skills' totals, as opening and totals do. There ours and both of the oracle's programs take turns, all by
+//! processor time (cputime.rs); each turn has its best run, and the lower quartile of the turns is told, with the spread of the turns.
 mod charts;
 mod clock;
 #[path = "../clients/station.rs"]
 mod station;
 use charts::{chart, put};
-use clock::{quartile, quartiles, timed};
+use clock::{now, quartile, quartiles, timed};
 use station::{mods, COUNTS, OBJECT, RATINGS, RECORD, SCRATCH, TOTALS, VALUES};
 use std::process::Command;
-use std::time::Instant;
 
 const SIZES: [usize; 4] = [100, 1000, 4000, 16384];
 
@@ -88,25 +87,28 @@ impl Station {
 }
 
 /// How often ours and the oracle's programs take turns.
-const TURNS: usize = 5;
+const TURNS: usize = 3;
+
+/// What gives the oracle's programs processor time for a clock; `bench/run` builds it.
+const CLOCK: &str = "target/libcputime.so";
 
 /// Microseconds of the oracle's `source`, best of its runs.
 fn oracle(folder: &str, program: &str, chart: &str) -> f64 {
-    let told = Command::new(format!("{folder}/{program}")).args(["bench", chart]).output().expect("the oracle runs");
+    let told = Command::new(format!("{folder}/{program}")).args(["bench", chart]).env("LD_PRELOAD", CLOCK).output().expect("the oracle runs");
     let told = String::from_utf8(told.stdout).unwrap();
     let line = told.lines().find(|l| l.starts_with("source")).expect("its line `source`");
     let seconds = line.split("best ").nth(1).and_then(|rest| rest.split(',').next()).expect("the best of its runs");
     seconds.parse::<f64>().unwrap() * 1e6
 }
 
-/// Microseconds of an opening with its totals, best of the runs that two seconds have room for, as the oracle's.
+/// Microseconds of an opening with its totals, best of the runs that a second has room for.
 fn ours(s: &mut Station) -> f64 {
-    let (whole, mut best) = (Instant::now(), f64::INFINITY);
-    while whole.elapsed().as_secs_f64() < 2.0 {
-        let start = Instant::now();
-        s.open();
-        s.totals();
-        best = best.min(start.elapsed().as_secs_f64() * 1e6);
+    let (whole, mut best) = (now(), f64::INFINITY);
+    while now() < whole + 1e6 {
+        best = best.min(timed(|| {
+            s.open();
+            s.totals();
+        }));
     }
     best
 }
