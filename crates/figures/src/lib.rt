@@ -1,6 +1,6 @@
 // The station's figures of a chart: what is worked out from the values of all places, with scratch. Nothing is assumed of the caller: each call answers the
-// first condition of its list that is met and changes nothing, or is carried out and leaves all scratch 0. Times come from the chart. A figure whose name ends in
-// as is the second player's, with that player's settings; the first player's settings are the header's.
+// first condition of its list that is met and changes nothing, or is carried out and leaves all scratch 0. Times come from the chart. A figure whose name ends
+// in as is the second player's, with that player's settings; the first player's settings are the header's.
 ghost use mathlib.Core.Path.{_≡_};
 ghost use mathlib.Core.List.{[]};
 ghost use Prim.Native.Nat.{_+_, _*_, _/_, _≤_};
@@ -453,7 +453,8 @@ pub fn totals_while_playing_as(
         (state (now (chart .entry)) [] (now (values .entry))) .answer) (now (list .entry)) ⌝ }
     ensures leaves { λ _. ⌜ state (now (chart .exit)) [] (now (values .exit)) ≡ state (now (chart .entry)) [] (now (values .entry)) ⌝ }
     ensures scratch { λ _. ⌜ scratchOf (now (aim .exit)) (now («aim_no_sliders» .exit)) (now (speed .exit)) (now (flashlight .exit))
-        ≡ scratchAfterAs (now (settings .entry)) (kinds.playing (length (now (list .entry)) / totalsWidth)) (state (now (chart .entry)) [] (now (values .entry)))
+        ≡ scratchAfterAs (now (settings .entry)) (kinds.playing (length (now (list .entry)) / totalsWidth))
+        (state (now (chart .entry)) [] (now (values .entry)))
         (scratchOf (now (aim .entry)) (now («aim_no_sliders» .entry)) (now (speed .entry)) (now (flashlight .entry))) ⌝ }
     ensures settings { λ _. ⌜ now (settings .exit) ≡ now (settings .entry) ⌝ }
 {

@@ -1,5 +1,7 @@
 -- `figures::check_lent` meets its contract. Assumes nothing.
 use mathlib.Core.Path.{_∙_, ap}
+use mathlib.Core.Bool.{Bool}
+use Rattle.chart_players.specs.Second.{under, secondVerdict}
 use Rattle.calls.specs.Tables.{valueEntries}
 use Rattle.calls.specs.Conditions.{sumVerdict}
 use borrow.Author.Needs.{needs}
@@ -13,7 +15,16 @@ check-sums-requires : tie.Need-check-sums-requires
 check-sums-requires c κs = search needs
 
 returns : tie.Need-returns
-returns c = c .check-sums .ensures ∙ ap (sumVerdict (c .before .before .before .args .chart .now) (valueEntries (c .before .before .before .args .values))) (c .before .scratch-short .ensures)
+returns c =
+    let a = c .before .before .before .before .args in
+    c .check-sums .ensures
+    ∙ ap (λ (s : Bool). secondVerdict (a .settings .now) (a .chart .now) (sumVerdict (under (a .settings .now) (a .chart .now)) (valueEntries (a .values)) s))
+    (c .before .scratch-short .ensures)
 
 pub check-lent-spec : {M : Type 1} → statement M
-check-lent-spec = tie.close (tie.spec scratch-short-requires check-sums-requires returns)
+check-lent-spec =
+    tie.close
+    (tie.spec
+    scratch-short-requires
+    check-sums-requires
+    returns)

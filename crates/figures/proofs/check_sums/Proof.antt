@@ -1,12 +1,12 @@
 -- `figures::check_sums` meets its contract. Assumes nothing.
 use mathlib.Core.Path.{sym, _∙_}
-use Rattle.calls.proofs.Refusals.{sum-refused, sum-passed}
+use Rattle.figures.proofs.Outcomes.{sums-refused, sums-passed}
 use borrow.Author.Needs.{needs}
 use Rattle.figures.proofs.check_sums.Statement.{statement}
 use Rattle.figures.proofs.check_sums.Tie as tie
 
-check-requires : tie.Need-check-requires
-check-requires c κs = search needs
+check-as-requires : tie.Need-check-as-requires
+check-as-requires c κs = search needs
 
 enum-known-r : tie.Need-enum-known-r
 enum-known-r c = search needs
@@ -15,14 +15,21 @@ enum-told : tie.Need-enum-told
 enum-told c = search needs
 
 returns : tie.Need-returns
-returns c = sym (sum-refused _ _ _ _ (sym (c .before .before .before .check .ensures) ∙ c .before .r .given .1))
+returns c = sym (sums-refused _ _ _ _ _ (sym (c .before .before .before .check-as .ensures) ∙ c .before .r .given .1))
 
 returns-2 : tie.Need-returns-2
-returns-2 c = sym (sum-passed _ _ _ (sym (c .before .before .before .check .ensures) ∙ c .before .enum-told .given .1) ∙ simp (c .if1 .taken))
+returns-2 c = sym (sums-passed _ _ _ _ (sym (c .before .before .before .check-as .ensures) ∙ c .before .enum-told .given .1) ∙ simp (c .if1 .taken))
 
 returns-3 : tie.Need-returns-3
-returns-3 c = sym (sum-passed _ _ _ (sym (c .before .before .before .check .ensures) ∙ c .before .enum-told .given .1) ∙ simp (c .if1 .left))
+returns-3 c = sym (sums-passed _ _ _ _ (sym (c .before .before .before .check-as .ensures) ∙ c .before .enum-told .given .1) ∙ simp (c .if1 .left))
 
 pub check-sums-spec : {M : Type 1} → statement M
 check-sums-spec =
-    tie.close (tie.spec check-requires enum-known-r enum-told returns returns-2 returns-3)
+    tie.close
+    (tie.spec
+    check-as-requires
+    enum-known-r
+    enum-told
+    returns
+    returns-2
+    returns-3)

@@ -1,38 +1,30 @@
 -- `figures::counts` meets its contract. Assumes nothing.
-use mathlib.Core.Path.{refl, sym, _∙_}
-use mathlib.Core.List.{[]}
-use lib.ListN.{length}
-use Rattle.calls.specs.Afresh.{counts, countsAre, countsOf, figureOf}
-use Rattle.calls.specs.Conditions.{lengths, askedConditions}
-use Rattle.calls.specs.Calls.{figureIs, result}
-use Rattle.chart_opening.specs.Conditions.{firstOf}
+use mathlib.Core.Path.{sym, _∙_}
+use Rattle.num_tables.specs.Parts.{part}
+use Rattle.calls.specs.Afresh.{counts}
 use Rattle.figures.specs.Answers.{scratchOf}
-use Rattle.figures.proofs.Outcomes.{sums, refused-by-sums, worked-out}
+use Rattle.figures.proofs.Outcomes.{short-chart, own-figure}
 use borrow.Author.Needs.{needs}
 use Rattle.figures.proofs.counts.Statement.{statement}
 use Rattle.figures.proofs.counts.Tie as tie
 
-check-lent-requires : tie.Need-check-lent-requires
-check-lent-requires c κs = search needs
-
-enum-known-r : tie.Need-enum-known-r
-enum-known-r c = search needs
-
-enum-told : tie.Need-enum-told
-enum-told c = search needs
-
-counts-of-requires : tie.Need-counts-of-requires
-counts-of-requires c κs =
-    let a = c .before .before .before .before .before .before .before .before .before .before .before .before .before .args in
-    sums (a .chart .now) (length (a .values .now)) (lengths (scratchOf (a .aim .now) (a .aim-no-sliders .now) (a .speed .now) (a .flashlight .now)))
-    (sym (c .before .before .before .before .before .before .check-lent .ensures) ∙ c .before .before .before .before .enum-told .given .1)
-
 returns : tie.Need-returns
 returns c =
-    let a = c .before .before .before .before .before .before .before .before .before .before .args in
-    let h = refused-by-sums counts (a .chart .now) (a .values .now) (scratchOf (a .aim .now) (a .aim-no-sliders .now) (a .speed .now) (a .flashlight .now)) _
-    (sym (c .before .before .before .check-lent .ensures) ∙ c .before .r .given .1) in
+    let a = c .before .before .before .before .before .before .before .args in
+    let h = short-chart counts (a .chart .now) (a .values .now) (scratchOf (a .aim .now) (a .aim-no-sliders .now) (a .speed .now) (a .flashlight .now)) (c .if1 .taken) in
     (sym (h .0), sym (h .1))
+
+sub-counts-as : tie.Need-sub-counts-as
+sub-counts-as c = search needs
+
+part-counts-as-start : tie.Need-part-counts-as-start
+part-counts-as-start c = search needs
+
+part-counts-as-end : tie.Need-part-counts-as-end
+part-counts-as-end c = search needs
+
+counts-as-requires : tie.Need-counts-as-requires
+counts-as-requires c κs = search needs
 
 same-length : tie.Need-same-length
 same-length c = search needs
@@ -47,23 +39,22 @@ same-length-4 : tie.Need-same-length-4
 same-length-4 c = search needs
 
 returns-2 : tie.Need-returns-2
-unfolding askedConditions firstOf figureOf countsOf
+unfolding part
 returns-2 c =
-    let a = c .before .before .before .before .before .before .before .before .before .before .before .before .before .before .before .before .before .before .before .before .before .before .args in
-    let h = worked-out counts (a .chart .now) (a .values .now) (scratchOf (a .aim .now) (a .aim-no-sliders .now) (a .speed .now) (a .flashlight .now))
-    (sym (c .before .before .before .before .before .before .before .before .before .before .before .before .before .before .before .check-lent .ensures) ∙ c .before .before .before .before .before .before .before .before .before .before .before .before .before .enum-told .given .1) refl in
-    let t = c .before .before .before .before .before .before .before .before .counts-of .ensures in
-    ((λ i. result (figureIs (countsAre (t .0 i))) (a .chart .now) [] (a .values .now)) ∙ sym (h .0), t .1 ∙ sym (h .1))
+    let a = c .before .before .before .before .before .before .before .before .before .before .before .before .before .before .before .before .before .before .before .before .before .args in
+    let h = own-figure counts (a .chart .now) (a .values .now) (scratchOf (a .aim .now) (a .aim-no-sliders .now) (a .speed .now) (a .flashlight .now)) (c .before .before .before .before .before .before .before .before .before .before .before .before .before .before .if1 .left) in
+    let t = c .before .before .before .before .before .before .before .before .counts-as .ensures in
+    (t .0 ∙ h .0, t .1 .0 ∙ h .1)
 
 pub counts-spec : {M : Type 1} → statement M
 counts-spec =
     tie.close
     (tie.spec
-    check-lent-requires
-    enum-known-r
-    enum-told
-    counts-of-requires
     returns
+    sub-counts-as
+    part-counts-as-start
+    part-counts-as-end
+    counts-as-requires
     same-length
     same-length-2
     same-length-3

@@ -10,13 +10,10 @@ use Rattle.figures.proofs.counts_of.Tie as tie
 layout-of-requires : tie.Need-layout-of-requires
 layout-of-requires c κs = search needs
 
-settings-at-requires : tie.Need-settings-at-requires
-settings-at-requires c κs = search needs
-
 counts-requires : tie.Need-counts-requires
 counts-requires c κs =
-    let s = c .before .before .before .before .before .before .before .before .before .before .before .before .pre in
-    (rw (c .before .before .before .before .before .layout-of .ensures) (record { holds = s .holds; rows = s .rows }), s .aim, s .aimNoSliders, s .speed, s .flashlight)
+    let s = c .before .before .before .before .before .before .before .before .before .before .before .pre in
+    (rw (c .before .before .before .before .layout-of .ensures) (record { holds = s .holds; rows = s .rows }), s .aim, s .aimNoSliders, s .speed, s .flashlight)
 
 same-length : tie.Need-same-length
 same-length c = search needs
@@ -33,11 +30,10 @@ same-length-4 c = search needs
 returns : tie.Need-returns
 unfolding cleared
 returns c =
-    let a = c .before .before .before .before .before .before .before .before .before .before .before .before .before .before .before .before .before .before .before .before .before .args in
-    let l = c .before .before .before .before .before .before .before .before .before .before .before .before .before .before .layout-of .ensures in
-    let s = c .before .before .before .before .before .before .before .before .before .before .before .before .before .settings-at .ensures in
+    let a = c .before .before .before .before .before .before .before .before .before .before .before .before .before .before .before .before .before .before .before .before .args in
+    let l = c .before .before .before .before .before .before .before .before .before .before .before .before .before .layout-of .ensures in
     let t = c .before .before .before .before .before .before .before .before .counts .ensures in (
-      t .0 ∙ (λ j. countsOf (a .chart .now) (l j) (s j .«clock_rate») (a .values .now)),
+      t .0 ∙ (λ j. countsOf (a .chart .now) (l j) (a .clock) (a .values .now)),
       (λ i. scratchOf (t .1 .0 i) (t .1 .1 .0 i) (t .1 .1 .1 .0 i) (t .1 .1 .1 .1 i)),
     )
 
@@ -46,7 +42,6 @@ counts-of-spec =
     tie.close
     (tie.spec
     layout-of-requires
-    settings-at-requires
     counts-requires
     same-length
     same-length-2

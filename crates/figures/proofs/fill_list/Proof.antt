@@ -13,14 +13,11 @@ use Rattle.figures.proofs.fill_list.Tie as tie
 layout-of-requires : tie.Need-layout-of-requires
 layout-of-requires c κs = search needs
 
-settings-at-requires : tie.Need-settings-at-requires
-settings-at-requires c κs = search needs
-
 totals-while-playing-requires : tie.Need-totals-while-playing-requires
 totals-while-playing-requires c κs =
-    let s = c .before .before .before .before .before .before .before .before .before .before .before .before .before .before .pre .0 in
-    let m = c .before .before .before .before .before .before .before .before .before .before .before .before .before .before .pre .1 in
-    (rw (c .before .before .before .before .before .before .layout-of .ensures) (record { holds = s .holds; rows = s .rows }), rw (c .before .before .before .before .before .before .layout-of .ensures) m, s .aim, s .aimNoSliders, s .speed, s .flashlight)
+    let s = c .before .before .before .before .before .before .before .before .before .before .before .before .before .pre .0 in
+    let m = c .before .before .before .before .before .before .before .before .before .before .before .before .before .pre .1 in
+    (rw (c .before .before .before .before .before .layout-of .ensures) (record { holds = s .holds; rows = s .rows }), rw (c .before .before .before .before .before .layout-of .ensures) m, s .aim, s .aimNoSliders, s .speed, s .flashlight)
 
 same-length : tie.Need-same-length
 same-length c = search needs
@@ -40,11 +37,10 @@ same-length-5 c = search needs
 returns : tie.Need-returns
 unfolding cleared
 returns c =
-    let a = c .before .before .before .before .before .before .before .before .before .before .before .before .before .before .before .before .before .before .before .before .before .before .before .before .before .args in
-    let l = c .before .before .before .before .before .before .before .before .before .before .before .before .before .before .before .before .before .layout-of .ensures in
-    let s = c .before .before .before .before .before .before .before .before .before .before .before .before .before .before .before .before .settings-at .ensures in
+    let a = c .before .before .before .before .before .before .before .before .before .before .before .before .before .before .before .before .before .before .before .before .before .before .before .before .args in
+    let l = c .before .before .before .before .before .before .before .before .before .before .before .before .before .before .before .before .layout-of .ensures in
     let t = c .before .before .before .before .before .before .before .before .before .before .totals-while-playing .ensures in (
-      t .0 ∙ (λ j. fill totalsWidth (rowAfter (a .chart .now) (l j) (s j .«clock_rate») (a .values .now)) 0 (l j .n + 1) (a .list .now)),
+      t .0 ∙ (λ j. fill totalsWidth (rowAfter (a .chart .now) (l j) (a .clock) (a .values .now)) 0 (l j .n + 1) (a .list .now)),
       (λ i. scratchOf (t .1 .0 i) (t .1 .1 .0 i) (t .1 .1 .1 .0 i) (t .1 .1 .1 .1 i)),
     )
 
@@ -53,7 +49,6 @@ fill-list-spec =
     tie.close
     (tie.spec
     layout-of-requires
-    settings-at-requires
     totals-while-playing-requires
     same-length
     same-length-2

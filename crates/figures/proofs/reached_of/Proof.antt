@@ -10,14 +10,11 @@ use Rattle.figures.proofs.reached_of.Tie as tie
 layout-of-requires : tie.Need-layout-of-requires
 layout-of-requires c κs = search needs
 
-settings-at-requires : tie.Need-settings-at-requires
-settings-at-requires c κs = search needs
-
 totals-to-requires : tie.Need-totals-to-requires
 totals-to-requires c κs =
-    let s = c .before .before .before .before .before .before .before .before .before .before .before .before .pre .0 in
-    let m = c .before .before .before .before .before .before .before .before .before .before .before .before .pre .1 in
-    (rw (c .before .before .before .before .before .layout-of .ensures) (record { holds = s .holds; rows = s .rows }), rw (c .before .before .before .before .before .layout-of .ensures) m, s .aim, s .aimNoSliders, s .speed, s .flashlight)
+    let s = c .before .before .before .before .before .before .before .before .before .before .before .pre .0 in
+    let m = c .before .before .before .before .before .before .before .before .before .before .before .pre .1 in
+    (rw (c .before .before .before .before .layout-of .ensures) (record { holds = s .holds; rows = s .rows }), rw (c .before .before .before .before .layout-of .ensures) m, s .aim, s .aimNoSliders, s .speed, s .flashlight)
 
 same-length : tie.Need-same-length
 same-length c = search needs
@@ -34,11 +31,10 @@ same-length-4 c = search needs
 returns : tie.Need-returns
 unfolding cleared
 returns c =
-    let a = c .before .before .before .before .before .before .before .before .before .before .before .before .before .before .before .before .before .before .before .before .before .args in
-    let l = c .before .before .before .before .before .before .before .before .before .before .before .before .before .before .layout-of .ensures in
-    let s = c .before .before .before .before .before .before .before .before .before .before .before .before .before .settings-at .ensures in
+    let a = c .before .before .before .before .before .before .before .before .before .before .before .before .before .before .before .before .before .before .before .before .args in
+    let l = c .before .before .before .before .before .before .before .before .before .before .before .before .before .layout-of .ensures in
     let t = c .before .before .before .before .before .before .before .before .totals-to .ensures in (
-      t .0 ∙ (λ j. totalsAfter (a .chart .now) (l j) (s j .«clock_rate») (a .values .now) (a .m)),
+      t .0 ∙ (λ j. totalsAfter (a .chart .now) (l j) (a .clock) (a .values .now) (a .m)),
       (λ i. scratchOf (t .1 .0 i) (t .1 .1 .0 i) (t .1 .1 .1 .0 i) (t .1 .1 .1 .1 i)),
     )
 
@@ -47,7 +43,6 @@ reached-of-spec =
     tie.close
     (tie.spec
     layout-of-requires
-    settings-at-requires
     totals-to-requires
     same-length
     same-length-2

@@ -1,38 +1,30 @@
 -- `figures::totals` meets its contract. Assumes nothing.
-use mathlib.Core.Path.{refl, sym, _∙_}
-use mathlib.Core.List.{[]}
-use lib.ListN.{length}
-use Rattle.calls.specs.Afresh.{totals, totalsAre, totalsOf, figureOf}
-use Rattle.calls.specs.Conditions.{lengths, askedConditions}
-use Rattle.calls.specs.Calls.{figureIs, result}
-use Rattle.chart_opening.specs.Conditions.{firstOf}
+use mathlib.Core.Path.{sym, _∙_}
+use Rattle.num_tables.specs.Parts.{part}
+use Rattle.calls.specs.Afresh.{totals}
 use Rattle.figures.specs.Answers.{scratchOf}
-use Rattle.figures.proofs.Outcomes.{sums, refused-by-sums, worked-out}
+use Rattle.figures.proofs.Outcomes.{short-chart, own-figure}
 use borrow.Author.Needs.{needs}
 use Rattle.figures.proofs.totals.Statement.{statement}
 use Rattle.figures.proofs.totals.Tie as tie
 
-check-lent-requires : tie.Need-check-lent-requires
-check-lent-requires c κs = search needs
-
-enum-known-r : tie.Need-enum-known-r
-enum-known-r c = search needs
-
-enum-told : tie.Need-enum-told
-enum-told c = search needs
-
-totals-of-requires : tie.Need-totals-of-requires
-totals-of-requires c κs =
-    let a = c .before .before .before .before .before .before .before .before .before .before .before .before .before .args in
-    sums (a .chart .now) (length (a .values .now)) (lengths (scratchOf (a .aim .now) (a .aim-no-sliders .now) (a .speed .now) (a .flashlight .now)))
-    (sym (c .before .before .before .before .before .before .check-lent .ensures) ∙ c .before .before .before .before .enum-told .given .1)
-
 returns : tie.Need-returns
 returns c =
-    let a = c .before .before .before .before .before .before .before .before .before .before .args in
-    let h = refused-by-sums totals (a .chart .now) (a .values .now) (scratchOf (a .aim .now) (a .aim-no-sliders .now) (a .speed .now) (a .flashlight .now)) _
-    (sym (c .before .before .before .check-lent .ensures) ∙ c .before .r .given .1) in
+    let a = c .before .before .before .before .before .before .before .args in
+    let h = short-chart totals (a .chart .now) (a .values .now) (scratchOf (a .aim .now) (a .aim-no-sliders .now) (a .speed .now) (a .flashlight .now)) (c .if1 .taken) in
     (sym (h .0), sym (h .1))
+
+sub-totals-as : tie.Need-sub-totals-as
+sub-totals-as c = search needs
+
+part-totals-as-start : tie.Need-part-totals-as-start
+part-totals-as-start c = search needs
+
+part-totals-as-end : tie.Need-part-totals-as-end
+part-totals-as-end c = search needs
+
+totals-as-requires : tie.Need-totals-as-requires
+totals-as-requires c κs = search needs
 
 same-length : tie.Need-same-length
 same-length c = search needs
@@ -47,23 +39,22 @@ same-length-4 : tie.Need-same-length-4
 same-length-4 c = search needs
 
 returns-2 : tie.Need-returns-2
-unfolding askedConditions firstOf figureOf totalsOf
+unfolding part
 returns-2 c =
-    let a = c .before .before .before .before .before .before .before .before .before .before .before .before .before .before .before .before .before .before .before .before .before .before .args in
-    let h = worked-out totals (a .chart .now) (a .values .now) (scratchOf (a .aim .now) (a .aim-no-sliders .now) (a .speed .now) (a .flashlight .now))
-    (sym (c .before .before .before .before .before .before .before .before .before .before .before .before .before .before .before .check-lent .ensures) ∙ c .before .before .before .before .before .before .before .before .before .before .before .before .before .enum-told .given .1) refl in
-    let t = c .before .before .before .before .before .before .before .before .totals-of .ensures in
-    ((λ i. result (figureIs (totalsAre (t .0 i))) (a .chart .now) [] (a .values .now)) ∙ sym (h .0), t .1 ∙ sym (h .1))
+    let a = c .before .before .before .before .before .before .before .before .before .before .before .before .before .before .before .before .before .before .before .before .before .args in
+    let h = own-figure totals (a .chart .now) (a .values .now) (scratchOf (a .aim .now) (a .aim-no-sliders .now) (a .speed .now) (a .flashlight .now)) (c .before .before .before .before .before .before .before .before .before .before .before .before .before .before .if1 .left) in
+    let t = c .before .before .before .before .before .before .before .before .totals-as .ensures in
+    (t .0 ∙ h .0, t .1 .0 ∙ h .1)
 
 pub totals-spec : {M : Type 1} → statement M
 totals-spec =
     tie.close
     (tie.spec
-    check-lent-requires
-    enum-known-r
-    enum-told
-    totals-of-requires
     returns
+    sub-totals-as
+    part-totals-as-start
+    part-totals-as-end
+    totals-as-requires
     same-length
     same-length-2
     same-length-3

@@ -1,55 +1,30 @@
 -- `figures::totals_to` meets its contract. Assumes nothing.
 use mathlib.Core.Path.{sym, _∙_}
-use mathlib.Core.List.{[]}
-use native.Mathlib.Omega.{arith}
-use lib.ListN.{length}
-use Rattle.chart_opening.specs.declared.Refusal.the-variants.{Place}
-use Rattle.calls.specs.Afresh.{totalsTo, totalsAre, reachedOf, figureOf, count}
-use Rattle.calls.specs.Conditions.{lengths}
-use Rattle.calls.specs.Calls.{figureIs, result}
+use Rattle.num_tables.specs.Parts.{part}
+use Rattle.calls.specs.Afresh.{totalsTo}
 use Rattle.figures.specs.Answers.{scratchOf}
-use Rattle.figures.proofs.Outcomes.{sums, counted, too-many, as-many, refused-by-sums, refused-as-asked, worked-out}
+use Rattle.figures.proofs.Outcomes.{short-chart, own-figure}
 use borrow.Author.Needs.{needs}
 use Rattle.figures.proofs.totals_to.Statement.{statement}
 use Rattle.figures.proofs.totals_to.Tie as tie
 
-check-lent-requires : tie.Need-check-lent-requires
-check-lent-requires c κs = search needs
-
-enum-known-r : tie.Need-enum-known-r
-enum-known-r c = search needs
-
-enum-told : tie.Need-enum-told
-enum-told c = search needs
-
-count-of-requires : tie.Need-count-of-requires
-count-of-requires c κs =
-    let a = c .before .before .before .before .before .before .before .before .before .args in
-    counted (sums (a .chart .now) (length (a .values .now)) (lengths (scratchOf (a .aim .now) (a .aim-no-sliders .now) (a .speed .now) (a .flashlight .now)))
-    (sym (c .before .before .check-lent .ensures) ∙ c .enum-told .given .1))
-
 returns : tie.Need-returns
 returns c =
-    let a = c .before .before .before .before .before .before .before .before .before .before .before .args in
-    let h = refused-as-asked (totalsTo (a .m)) (a .chart .now) (a .values .now) (scratchOf (a .aim .now) (a .aim-no-sliders .now) (a .speed .now) (a .flashlight .now)) Place
-    (sym (c .before .before .before .before .check-lent .ensures) ∙ c .before .before .enum-told .given .1)
-    (too-many (a .m) (count (a .chart .now)) (omega (arith, c .if1 .taken, c .before .count-of .ensures .0))) in
+    let a = c .before .before .before .before .before .before .before .args in
+    let h = short-chart (totalsTo (a .m)) (a .chart .now) (a .values .now) (scratchOf (a .aim .now) (a .aim-no-sliders .now) (a .speed .now) (a .flashlight .now)) (c .if1 .taken) in
     (sym (h .0), sym (h .1))
 
-reached-of-requires : tie.Need-reached-of-requires
-reached-of-requires c κs =
-    let a = c .before .before .before .before .before .before .before .before .before .before .before .before .before .before .before .args in (
-      sums (a .chart .now) (length (a .values .now)) (lengths (scratchOf (a .aim .now) (a .aim-no-sliders .now) (a .speed .now) (a .flashlight .now)))
-          (sym (c .before .before .before .before .before .before .before .before .check-lent .ensures) ∙ c .before .before .before .before .before .before .enum-told .given .1),
-      omega (arith, c .before .before .before .before .if1 .left, c .before .before .before .before .before .count-of .ensures .0),
-    )
+sub-totals-to-as : tie.Need-sub-totals-to-as
+sub-totals-to-as c = search needs
 
-returns-2 : tie.Need-returns-2
-returns-2 c =
-    let a = c .before .before .before .before .before .before .before .before .before .before .args in
-    let h = refused-by-sums (totalsTo (a .m)) (a .chart .now) (a .values .now) (scratchOf (a .aim .now) (a .aim-no-sliders .now) (a .speed .now) (a .flashlight .now)) _
-    (sym (c .before .before .before .check-lent .ensures) ∙ c .before .r .given .1) in
-    (sym (h .0), sym (h .1))
+part-totals-to-as-start : tie.Need-part-totals-to-as-start
+part-totals-to-as-start c = search needs
+
+part-totals-to-as-end : tie.Need-part-totals-to-as-end
+part-totals-to-as-end c = search needs
+
+totals-to-as-requires : tie.Need-totals-to-as-requires
+totals-to-as-requires c κs = search needs
 
 same-length : tie.Need-same-length
 same-length c = search needs
@@ -63,29 +38,25 @@ same-length-3 c = search needs
 same-length-4 : tie.Need-same-length-4
 same-length-4 c = search needs
 
-returns-3 : tie.Need-returns-3
-unfolding figureOf reachedOf
-returns-3 c =
-    let a = c .before .before .before .before .before .before .before .before .before .before .before .before .before .before .before .before .before .before .before .before .before .before .before .before .args in
-    let h = worked-out (totalsTo (a .m)) (a .chart .now) (a .values .now) (scratchOf (a .aim .now) (a .aim-no-sliders .now) (a .speed .now) (a .flashlight .now))
-    (sym (c .before .before .before .before .before .before .before .before .before .before .before .before .before .before .before .before .before .check-lent .ensures) ∙ c .before .before .before .before .before .before .before .before .before .before .before .before .before .before .before .enum-told .given .1)
-    (as-many (a .m) (count (a .chart .now)) (omega (arith, c .before .before .before .before .before .before .before .before .before .before .before .before .before .if1 .left, c .before .before .before .before .before .before .before .before .before .before .before .before .before .before .count-of .ensures .0))) in
-    let t = c .before .before .before .before .before .before .before .before .reached-of .ensures in
-    ((λ i. result (figureIs (totalsAre (t .0 i))) (a .chart .now) [] (a .values .now)) ∙ sym (h .0), t .1 ∙ sym (h .1))
+returns-2 : tie.Need-returns-2
+unfolding part
+returns-2 c =
+    let a = c .before .before .before .before .before .before .before .before .before .before .before .before .before .before .before .before .before .before .before .before .before .args in
+    let h = own-figure (totalsTo (a .m)) (a .chart .now) (a .values .now) (scratchOf (a .aim .now) (a .aim-no-sliders .now) (a .speed .now) (a .flashlight .now)) (c .before .before .before .before .before .before .before .before .before .before .before .before .before .before .if1 .left) in
+    let t = c .before .before .before .before .before .before .before .before .totals-to-as .ensures in
+    (t .0 ∙ h .0, t .1 .0 ∙ h .1)
 
 pub totals-to-spec : {M : Type 1} → statement M
 totals-to-spec =
     tie.close
     (tie.spec
-    check-lent-requires
-    enum-known-r
-    enum-told
-    count-of-requires
     returns
-    reached-of-requires
-    returns-2
+    sub-totals-to-as
+    part-totals-to-as-start
+    part-totals-to-as-end
+    totals-to-as-requires
     same-length
     same-length-2
     same-length-3
     same-length-4
-    returns-3)
+    returns-2)
