@@ -15,6 +15,7 @@ import tempfile
 
 sys.dont_write_bytecode = True
 import foreign
+import players
 import replacements
 import scripts
 
@@ -110,8 +111,14 @@ def calls(oracle, data):
         yield from scripts.answers(oracle.second, oracle.program, b, pattern, lines, True)[0]
 
 
+def calls_of_two(oracle, data):
+    """Only where ORDERS names order 8, too."""
+    for b, pattern, lines in scripts.unpacked(data):
+        yield from players.answers(oracle.second, oracle.program, b, pattern, lines)[0]
+
+
 PROGRAMS = {"test_opening": opening, "test_records": records, "test_outer": values, "test_strains": strains, "test_playing": playing,
-            "test_listings": listings, "test_replacing": replacing, "test_foreign": tables, "test_scripts": calls}
+            "test_listings": listings, "test_replacing": replacing, "test_foreign": tables, "test_scripts": calls, "test_players": calls_of_two}
 
 
 def main():

@@ -2,7 +2,7 @@
 """Holds a program against the oracle, on charts and scripts of calls that are made anew from a seed.
 
     compare.py lists|parts|rhythms TOOLS BUILD PROGRAM [--seed S] [--count N]
-    compare.py scripts TOOLS BUILD PROGRAM [--seed S] [--count N] [--calls C]
+    compare.py scripts|players TOOLS BUILD PROGRAM [--seed S] [--count N] [--calls C]
     compare.py MODE TOOLS BUILD --save DIR ...      no program: writes DIR/stdin and DIR/stdout
 
 TOOLS is the folder of the oracle's scripts (mkcharts.py, mkscripts.py), BUILD that of its programs.
@@ -18,6 +18,9 @@ scripts: PROGRAM is `test_scripts`, or reads and writes as it does (crates/test_
 fifth has 0 to 3 objects, and half of these are edited at every place. Every second script is a list of calls on one buffer, with no other hand on the chart; in the others a hand writes to the chart and
 calls are lent buffers of other lengths. Every third reads aim with its parts and rhythm values with their comparisons too. Tables hold numbers of other origin beforehand. Floats are compared by their bits; where the oracle only says that
 a call is carried out, the program must not refuse it.
+
+players: PROGRAM is `test_players`; the same for two players over one chart, on the same charts. Every second script is one of tools/players.py, the others are
+calls by chance. ORDERS must name order 8, and must not for the scripts of one player.
 
 The variable ORDERS tells the oracle and its scripts which orders have landed.
 
@@ -35,6 +38,7 @@ import sys
 import tempfile
 
 sys.dont_write_bytecode = True
+import players
 import stated
 from chart import object_size
 from scripts import KEPT, READINGS, every_place, packed_script, patterns, with_details
@@ -138,12 +142,15 @@ def lists(a, oracle):
 def packed_call(a, i, chart, calls, answer):
     """The bytes of the i-th script."""
     rng = random.Random(f"tables/{a.seed}/{i}")
-    return packed_script(rng, chart, rng.choice(list(patterns(rng))), calls, answer.splitlines())
+    packed = players.packed_script if a.mode == "players" else packed_script
+    return packed(rng, chart, rng.choice(list(patterns(rng))), calls, answer.splitlines())
 
 
 def calls_of(a, i, chart):
     """The i-th script."""
     import mkscripts
+    if a.mode == "players":
+        return players.by_chance(chart, f"{a.seed}/{i}", a.calls, pure=i % 4 == 1) if i % 2 else players.made(chart, f"{a.seed}/{i}")
     if i % 10 == 9:
         return every_place(chart, READINGS)
     if i % 3 == 1:
@@ -238,7 +245,7 @@ def save(a, batches):
 
 def main():
     p = argparse.ArgumentParser(usage=__doc__)
-    p.add_argument("mode", choices=(*ASKED, "scripts"))
+    p.add_argument("mode", choices=(*ASKED, "scripts", "players"))
     p.add_argument("tools")
     p.add_argument("build")
     p.add_argument("program", nargs="?", type=shlex.split)
@@ -249,10 +256,10 @@ def main():
     a = p.parse_args()
     if bool(a.program) == bool(a.save):
         p.error("a program or --save")
-    a.count = a.count or {"lists": 20_000, "scripts": 200}.get(a.mode, 2_000)
+    a.count = a.count or {"lists": 20_000, "scripts": 200, "players": 200}.get(a.mode, 2_000)
     sys.path.insert(0, a.tools)
     with tempfile.TemporaryDirectory() as folder:
-        batches = (scripts if a.mode == "scripts" else lists)(a, Oracle(a.build, folder))
+        batches = (lists if a.mode in ASKED else scripts)(a, Oracle(a.build, folder))
         return (save if a.save else run)(a, batches)
 
 

@@ -34,6 +34,7 @@ MEMORY = 65536  # bytes that the program keeps: the chart, and what a buffer has
 KEPT = "entries kept"  # the last line of every script
 NAMES = ("open", "replace", "record", "value", "totals", "poke", "chart", "insert", "remove", "buffer", "entry", "parts", "rhythm")
 KINDS = {name: kind for kind, name in enumerate(NAMES)}
+SETTINGS, FOR_SECOND, FOR_BOTH = 13, 16, 32  # kinds of `test_players`: the second player's settings, what a call for that player or for both has on top
 EDITS = ("replace", "insert", "remove")
 DETAILS = ("parts", "rhythm")
 OF_RECORDS = ("record", *DETAILS)
@@ -231,7 +232,7 @@ def packed_script(r, chart, pattern, lines, told):
 
 
 def unpacked(data):
-    """The scripts of an input: chart, pattern and lines; a table has as many entries as it has whole ones."""
+    """The scripts of an input, for one player or for two: chart, pattern and lines; a table has as many entries as it has whole ones."""
     at = lent = 0
 
     def take(form):
@@ -248,11 +249,16 @@ def unpacked(data):
     def call():
         nonlocal lent
         kind, buffer = take("<2I")
-        name = NAMES[kind]
+        if kind == SETTINGS:
+            return f"settings {chunk().hex() or '-'}"
+        players = ["both"] if kind >= FOR_BOTH else ["second"] if kind >= FOR_SECOND else []
+        if players:
+            chunk()  # the settings that hold
+        name = NAMES[kind % 16]
         if name == "open":
             w = tables()
         elif name in EDITS:
-            w = [*take("<Q"), chunk().hex() or "-", *tables(), *[buffer] * (buffer != lent)]
+            w = [*take("<Q"), chunk().hex() or "-", *tables(), *(tables() if players else []), *[buffer] * (buffer != lent)]
             w = w[:1] + w[2:] if name == "remove" else w
         elif name in READINGS:
             w = [*take("<Q"), take("<I")[0] // (16 if name in OF_RECORDS else 5)]
@@ -266,7 +272,7 @@ def unpacked(data):
             w, lent = [buffer], buffer
         else:
             w = []
-        return " ".join(map(str, [name, *w]))
+        return " ".join(map(str, [*players, name, *w]))
 
     while at < len(data):
         chart, pattern = chunk(), take("<80d")

@@ -15,98 +15,19 @@
 // Then come the length of the buffer that is lent at the end, and the largest N on the way. Places of calls are u64, all else u32, tables and scratch are
 // counted in numbers, all is little-endian. Every answer is a line. A script ends with the lines of 6, and whether entry 0 and those behind the largest N
 // hold what they held.
-ghost use Prim.Native.Nat.{_≤_};
 use chart_opening::Verdict;
-use figures::TotalsAnswer;
-use readings::AimAnswer;
-use readings::RecordAnswer;
-use readings::RhythmAnswer;
-use readings::ValuesAnswer;
 
 // Scripts that are read at most.
 const MOST: usize = 65536;
-
-// Entries of each table, and numbers of an entry.
-const ENTRIES: usize = 1024;
-
-const RECORD_WIDTH: usize = 16;
-
-const VALUE_WIDTH: usize = 5;
-
-// What all scratch holds before a call.
-const UNUSED: f64 = 7.5;
-
-// A byte as a larger number.
-fn wide(x: u8) -> u64 {
-    x as u64
-}
-
-// The next step of a 64-bit FNV-1a hash: h ^ w times 2^40 + 0x1B3, by 2^64.
-fn hashed(h: u64, w: u64) -> u64 {
-    let x = h ^ w;
-    let low = x % 0x1_0000_0000 * 0x1B3;
-    let top = x / 0x1_0000_0000 % 0x1_0000_0000 * 0x1B3 % 0x1_0000_0000;
-    let high = top * 0x1_0000_0000;
-    let shifted = x % 0x100_0000 * 0x100_0000_0000;
-    std::num::wrapping_add_u64(std::num::wrapping_add_u64(low, high), shifted)
-}
-
-// The FNV-1a hash of the bytes.
-fn hash(bytes: &[u8]) -> u64 {
-    let mut h = 0xCBF2_9CE4_8422_2325;
-    let mut i = 0;
-    while i < bytes.len() {
-        h = hashed(h, wide(bytes[i]));
-        i += 1;
-    }
-    h
-}
-
-// A hash goes on over the bits of a table.
-fn hash_table(from: u64, table: &[f64]) -> u64 {
-    let mut h = from;
-    let mut i = 0;
-    while i < table.len() {
-        h = hashed(h, num_floats::bits_of_f64(table[i]));
-        i += 1;
-    }
-    h
-}
-
-// A hash of all that a refused call must leave as it was.
-fn hash_all(chart: &[u8], records: &[f64], values: &[f64]) -> u64 {
-    hash_table(hash_table(hash(chart), records), values)
-}
-
-// The line of an opening or an edit: a word, or the refusal, and where it changed anything a line that says so.
-fn put_verdict(
-    out: &mut [u8],
-    at: usize,
-    v: Verdict,
-    word: &[u8],
-    before: u64,
-    after: u64,
-) -> usize {
-    match v {
-        Verdict::Accepted => text::put_all(out, at, word),
-        Verdict::Refused(r) => {
-            let end = lines::put_refusal(out, at, r);
-            if before == after {
-                return end;
-            }
-            text::put_all(out, end, b"changed by a refused call\n")
-        }
-    }
-}
 
 // Opens the chart into tables of the lengths that follow, and puts the answer's line.
 fn open(out: &mut [u8], at: usize, chart: &[u8], records: &mut [f64], values: &mut [f64]) -> usize {
     let r = text::next_length(records.len());
     let v = text::next_length(values.len());
-    let before = hash_all(chart, records, values);
+    let before = script_lines::hash_all(chart, records, values);
     let verdict = editor::open(chart, &mut records[0..r], &mut values[0..v]);
-    let after = hash_all(chart, records, values);
-    put_verdict(out, at, verdict, b"opened\n", before, after)
+    let after = script_lines::hash_all(chart, records, values);
+    script_lines::put_verdict(out, at, verdict, b"opened\n", before, after)
 }
 
 // An edit, by its kind.
@@ -138,7 +59,7 @@ fn edit(
 ) -> usize {
     let r = text::next_length(records.len());
     let v = text::next_length(values.len());
-    let before = hash_all(chart, records, values);
+    let before = script_lines::hash_all(chart, records, values);
     let verdict = carry_out(
         kind,
         chart,
@@ -147,8 +68,8 @@ fn edit(
         &mut records[0..r],
         &mut values[0..v],
     );
-    let after = hash_all(chart, records, values);
-    put_verdict(out, at, verdict, b"accepted\n", before, after)
+    let after = script_lines::hash_all(chart, records, values);
+    script_lines::put_verdict(out, at, verdict, b"accepted\n", before, after)
 }
 
 // Reads the place and the object before the call.
@@ -173,61 +94,39 @@ fn read_and_edit(
 fn record(out: &mut [u8], at: usize, chart: &[u8], records: &[f64]) -> usize {
     let place = text::next_long() as usize;
     let r = text::next_length(records.len());
-    match readings::read_record(chart, &records[0..r], place) {
-        RecordAnswer::Refused(x) => lines::put_refusal(out, at, x),
-        RecordAnswer::Record(x) => {
-            let word = text::put_all(out, at, b"record ");
-            lines::put_record(out, word, place, x)
-        }
-    }
+    let answer = readings::read_record(chart, &records[0..r], place);
+    script_lines::put_record(out, at, place, answer)
 }
 
 // Reads a place's values, and puts their line.
 fn value(out: &mut [u8], at: usize, chart: &[u8], values: &[f64]) -> usize {
     let place = text::next_long() as usize;
     let v = text::next_length(values.len());
-    match readings::read_values(chart, &values[0..v], place) {
-        ValuesAnswer::Refused(x) => lines::put_refusal(out, at, x),
-        ValuesAnswer::Values(x) => {
-            let word = text::put_all(out, at, b"value ");
-            lines::put_values(out, word, place, x)
-        }
-    }
+    let answer = readings::read_values(chart, &values[0..v], place);
+    script_lines::put_values(out, at, place, answer)
 }
 
 // Reads aim with its parts and puts the answer's line.
 fn parts(out: &mut [u8], at: usize, chart: &[u8], records: &[f64]) -> usize {
     let place = text::next_long() as usize;
     let r = text::next_length(records.len());
-    match readings::read_aim_parts(chart, &records[0..r], place) {
-        AimAnswer::Refused(x) => lines::put_refusal(out, at, x),
-        AimAnswer::Aim(d) => {
-            let with = d.parts;
-            let without = d.parts_no_sliders;
-            let word = text::put_all(out, at, b"parts ");
-            lines::put_aim(out, word, place, d.value, with, d.value_no_sliders, without)
-        }
-    }
+    let answer = readings::read_aim_parts(chart, &records[0..r], place);
+    script_lines::put_aim_parts(out, at, place, answer)
 }
 
 // Reads a rhythm value with its comparisons and puts the answer's line.
 fn rhythm(out: &mut [u8], at: usize, chart: &[u8], records: &[f64]) -> usize {
     let place = text::next_long() as usize;
     let r = text::next_length(records.len());
-    match readings::read_rhythm(chart, &records[0..r], place) {
-        RhythmAnswer::Refused(x) => lines::put_refusal(out, at, x),
-        RhythmAnswer::Rhythm(c) => {
-            let word = text::put_all(out, at, b"rhythm ");
-            lines::put_rhythm(out, word, place, c)
-        }
-    }
+    let answer = readings::read_rhythm(chart, &records[0..r], place);
+    script_lines::put_rhythm(out, at, place, answer)
 }
 
 // Fills scratch with the mark of what is not used.
 fn mark(scratch: &mut [f64]) {
     let mut i = 0;
     while i < scratch.len() {
-        scratch[i] = UNUSED;
+        scratch[i] = script_lines::UNUSED;
         i += 1;
     }
 }
@@ -238,34 +137,6 @@ fn mark_all(a: &mut [f64], b: &mut [f64], c: &mut [f64], d: &mut [f64]) {
     mark(b);
     mark(c);
     mark(d);
-}
-
-// Whether all numbers are x, bit for bit.
-fn holds(scratch: &[f64], x: f64) -> bool {
-    let mut i = 0;
-    while i < scratch.len() {
-        if num_floats::bits_of_f64(scratch[i]) != num_floats::bits_of_f64(x) {
-            return false;
-        }
-        i += 1;
-    }
-    true
-}
-
-// A line where the scratch does not hold x.
-fn put_scratch(
-    out: &mut [u8],
-    at: usize,
-    x: f64,
-    a: &[f64],
-    b: &[f64],
-    c: &[f64],
-    d: &[f64],
-) -> usize {
-    if holds(a, x) & holds(b, x) & holds(c, x) & holds(d, x) {
-        return at;
-    }
-    text::put_all(out, at, b"scratch is not left as it should be\n")
 }
 
 // Totals leave the scratch as it was lent, or all 0.
@@ -279,16 +150,8 @@ fn totals(
     c: &mut [f64],
     d: &mut [f64],
 ) -> usize {
-    match figures::totals(chart, values, a, b, c, d) {
-        TotalsAnswer::Refused(x) => {
-            let end = lines::put_refusal(out, at, x);
-            put_scratch(out, end, UNUSED, a, b, c, d)
-        }
-        TotalsAnswer::Totals(t) => {
-            let end = lines::put_totals(out, at, t);
-            put_scratch(out, end, 0.0, a, b, c, d)
-        }
-    }
+    let answer = figures::totals(chart, values, a, b, c, d);
+    script_lines::put_totals(out, at, answer, a, b, c, d)
 }
 
 // Reads the lengths before the call.
@@ -330,106 +193,6 @@ fn poke(out: &mut [u8], at: usize, chart: &mut [u8], bytes: &mut [u8]) -> usize 
     text::put_all(out, at, b"poked\n")
 }
 
-// The line of a chart's length and hash.
-fn put_chart(out: &mut [u8], at: usize, chart: &[u8]) -> usize {
-    let word = text::put_all(out, at, b"chart ");
-    let length = text::put_decimal(out, word, chart.len() as u64);
-    let space = text::put(out, length, b' ');
-    let end = text::put_hex64(out, space, hash(chart));
-    text::put(out, end, b'\n')
-}
-
-// The line of how many bytes are lent.
-fn put_lent(out: &mut [u8], at: usize, n: usize) -> usize {
-    let word = text::put_all(out, at, b"lent ");
-    let length = text::put_decimal(out, word, n as u64);
-    text::put(out, length, b'\n')
-}
-
-// Number i of the pattern that fills the tables.
-fn pattern_at(pattern: &[f64], i: usize) -> f64 {
-    let at = i % 80;
-    if at < pattern.len() { pattern[at] } else { 0.0 }
-}
-
-// Fills a table with the pattern.
-fn fill(table: &mut [f64], pattern: &[f64]) {
-    let mut i = 0;
-    while i < table.len() {
-        table[i] = pattern_at(pattern, i);
-        i += 1;
-    }
-}
-
-// The bytes that follow a chart of n bytes.
-fn fill_memory(memory: &mut [u8], n: usize) {
-    let mut i = n;
-    while i < memory.len() {
-        memory[i] = (i % 251) as u8;
-        i += 1;
-    }
-}
-
-// Whether the table's numbers from low to high - 1 are the pattern's.
-fn patterned(table: &[f64], pattern: &[f64], low: usize, high: usize) -> bool {
-    let mut i = low;
-    while i < high {
-        if table.len() <= i {
-            return true;
-        }
-        let x = pattern_at(pattern, i);
-        if num_floats::bits_of_f64(table[i]) != num_floats::bits_of_f64(x) {
-            return false;
-        }
-        i += 1;
-    }
-    true
-}
-
-// Whether both tables hold the pattern from one entry to before another.
-fn unwritten(pattern: &[f64], records: &[f64], values: &[f64], low: usize, high: usize) -> bool
-    requires { ⌜ (low ≤ 2048) × (high ≤ 2048) ⌝ }
-{
-    patterned(records, pattern, RECORD_WIDTH * low, RECORD_WIDTH * high)
-        & patterned(values, pattern, VALUE_WIDTH * low, VALUE_WIDTH * high)
-}
-
-// The offset of the line's end before an offset.
-fn line_end(at: usize) -> usize {
-    if 0 < at { at - 1 } else { 0 }
-}
-
-// The numbers of an entry of both tables.
-fn put_entry(out: &mut [u8], at: usize, place: usize, records: &[f64], values: &[f64]) -> usize
-    requires { ⌜ place ≤ 1024 ⌝ }
-{
-    if records.len() < RECORD_WIDTH * place + RECORD_WIDTH {
-        return at;
-    }
-    if values.len() < VALUE_WIDTH * place + VALUE_WIDTH {
-        return at;
-    }
-    let line = lines::put_record(out, at, place, osu_records::record_at(records, place));
-    let v = eval_values::row_at(values, place);
-    let aim = lines::put_f64(out, line_end(line), v.aim);
-    let aim_no_sliders = lines::put_f64(out, aim, v.aim_no_sliders);
-    let speed = lines::put_f64(out, aim_no_sliders, v.speed);
-    let rhythm = lines::put_f64(out, speed, v.rhythm);
-    let flashlight = lines::put_f64(out, rhythm, v.flashlight);
-    text::put(out, flashlight, b'\n')
-}
-
-// What an entry of both tables holds, or that it was never written.
-fn entry(out: &mut [u8], at: usize, pattern: &[f64], records: &[f64], values: &[f64]) -> usize {
-    let place = text::next_length(ENTRIES);
-    let word = text::put_all(out, at, b"entry ");
-    if unwritten(pattern, records, values, place, place + 1) {
-        let end = text::put_decimal(out, word, place as u64);
-        return text::put_all(out, end, b" kept\n");
-    }
-    put_entry(out, word, place, records, values)
-}
-
 // One call that leaves the tables alone.
 fn look(
     out: &mut [u8],
@@ -451,11 +214,11 @@ fn look(
             mark_all(a, b, c, d);
             read_and_total(out, at, chart, values, a, b, c, d)
         }
-        9 => put_lent(out, at, chart.len()),
-        10 => entry(out, at, pattern, records, values),
+        9 => script_lines::put_lent(out, at, chart.len()),
+        10 => script_lines::next_entry(out, at, pattern, records, values),
         11 => parts(out, at, chart, records),
         12 => rhythm(out, at, chart, records),
-        _ => put_chart(out, at, chart),
+        _ => script_lines::put_chart(out, at, chart),
     }
 }
 
@@ -551,15 +314,6 @@ fn calls(
     end
 }
 
-// Whether entry 0 and those from the largest N on hold what they held.
-fn put_kept(out: &mut [u8], at: usize, pattern: &[f64], records: &[f64], values: &[f64]) -> usize {
-    let n = text::next_length(ENTRIES);
-    if unwritten(pattern, records, values, 0, 1) & unwritten(pattern, records, values, n, ENTRIES) {
-        return text::put_all(out, at, b"entries kept\n");
-    }
-    text::put_all(out, at, b"entries lost\n")
-}
-
 // Fills both tables with the pattern that comes first, and the memory behind a chart of n bytes.
 fn prepare(
     memory: &mut [u8],
@@ -569,10 +323,10 @@ fn prepare(
     records: &mut [f64],
     values: &mut [f64],
 ) {
-    fill_memory(memory, n);
+    script_lines::fill_memory(memory, n);
     text::read_numbers(80, object, pattern);
-    fill(records, pattern);
-    fill(values, pattern);
+    script_lines::fill(records, pattern);
+    script_lines::fill(values, pattern);
 }
 
 // The last lines of a script.
@@ -584,9 +338,11 @@ fn finish(
     records: &[f64],
     values: &[f64],
 ) {
-    let n = text::next_length(memory.len());
-    let line = put_chart(out, at, &memory[0..n]);
-    let end = put_kept(out, line, pattern, records, values);
+    let lent = text::next_length(memory.len());
+    let line = script_lines::put_chart(out, at, &memory[0..lent]);
+    let n = text::next_length(script_lines::ENTRIES);
+    let kept = script_lines::kept(pattern, records, values, n);
+    let end = script_lines::put_kept(out, line, kept);
     text::show(out, end);
 }
 

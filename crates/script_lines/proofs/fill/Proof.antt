@@ -1,10 +1,10 @@
--- `test_scripts::fill` meets its contract: the table keeps its length. Assumes nothing.
+-- `script_lines::fill` meets its contract: the table keeps its length. Assumes nothing.
 use borrow.Author.Needs.{needs}
 use Prim.Native.Nat.{_-_}
 use mathlib.Core.Path.{_≡_}
 use lib.ListN.{length}
-use Rattle.test_scripts.proofs.fill.Statement.{statement}
-use Rattle.test_scripts.proofs.fill.Tie as tie
+use Rattle.script_lines.proofs.fill.Statement.{statement}
+use Rattle.script_lines.proofs.fill.Tie as tie
 
 abbrev Inv-loop : tie.InvT-loop
 Inv-loop table₀ pattern i₀ table i = length table ≡ length table₀

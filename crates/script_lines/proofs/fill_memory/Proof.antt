@@ -1,10 +1,10 @@
--- `test_scripts::fill_memory` meets its contract: the memory keeps its length. Assumes nothing.
+-- `script_lines::fill_memory` meets its contract: the memory keeps its length. Assumes nothing.
 use borrow.Author.Needs.{needs}
 use Prim.Native.Nat.{_-_}
 use mathlib.Core.Path.{_≡_}
 use lib.ListN.{length}
-use Rattle.test_scripts.proofs.fill_memory.Statement.{statement}
-use Rattle.test_scripts.proofs.fill_memory.Tie as tie
+use Rattle.script_lines.proofs.fill_memory.Statement.{statement}
+use Rattle.script_lines.proofs.fill_memory.Tie as tie
 
 abbrev Inv-loop : tie.InvT-loop
 Inv-loop memory₀ n i₀ memory i = length memory ≡ length memory₀

@@ -1,9 +1,9 @@
--- `test_scripts::holds` meets its contract: i goes up to the length. Assumes nothing.
+-- `script_lines::holds` meets its contract: i goes up to the length. Assumes nothing.
 use borrow.Author.Needs.{needs}
 use Prim.Native.Nat.{_-_}
 use lib.ListN.{length}
-use Rattle.test_scripts.proofs.holds.Statement.{statement}
-use Rattle.test_scripts.proofs.holds.Tie as tie
+use Rattle.script_lines.proofs.holds.Statement.{statement}
+use Rattle.script_lines.proofs.holds.Tie as tie
 
 abbrev Inv-loop : tie.InvT-loop
 Inv-loop scratch x i₀ i = Unit {0}

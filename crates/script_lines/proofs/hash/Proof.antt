@@ -1,9 +1,9 @@
--- `test_scripts::hash` meets its contract: i goes up to the length. Assumes nothing.
+-- `script_lines::hash` meets its contract: i goes up to the length. Assumes nothing.
 use borrow.Author.Needs.{needs}
 use Prim.Native.Nat.{_-_}
 use lib.ListN.{length}
-use Rattle.test_scripts.proofs.hash.Statement.{statement}
-use Rattle.test_scripts.proofs.hash.Tie as tie
+use Rattle.script_lines.proofs.hash.Statement.{statement}
+use Rattle.script_lines.proofs.hash.Tie as tie
 
 abbrev Inv-loop : tie.InvT-loop
 Inv-loop bytes h₀ i₀ h i = Unit {0}

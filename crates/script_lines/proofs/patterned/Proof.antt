@@ -1,18 +1,23 @@
--- `test_scripts::hash_table` meets its contract: i goes up to the length. Assumes nothing.
+-- `script_lines::patterned` meets its contract: i goes up to high. Assumes nothing.
 use borrow.Author.Needs.{needs}
 use Prim.Native.Nat.{_-_}
-use lib.ListN.{length}
-use Rattle.test_scripts.proofs.hash_table.Statement.{statement}
-use Rattle.test_scripts.proofs.hash_table.Tie as tie
+use Rattle.script_lines.proofs.patterned.Statement.{statement}
+use Rattle.script_lines.proofs.patterned.Tie as tie
 
 abbrev Inv-loop : tie.InvT-loop
-Inv-loop from table h₀ i₀ h i = Unit {0}
+Inv-loop table pattern low high i₀ i = Unit {0}
 
 abbrev μ-loop : tie.MeasureT-loop
-μ-loop from table h₀ i₀ h i = length table - i
+μ-loop table pattern low high i₀ i = high - i
 
 loop-holds : tie.Need-loop-holds Inv-loop μ-loop
 loop-holds c = search needs
+
+returns : tie.Need-returns Inv-loop μ-loop
+returns c = search needs
+
+pattern-at-requires : tie.Need-pattern-at-requires Inv-loop μ-loop
+pattern-at-requires c κs = search needs
 
 mul-bits-of-f64 : tie.Need-mul-bits-of-f64 Inv-loop μ-loop
 mul-bits-of-f64 c = search needs
@@ -23,8 +28,11 @@ shared-slice-read-bits-of-f64 c = search needs
 bits-of-f64-requires : tie.Need-bits-of-f64-requires Inv-loop μ-loop
 bits-of-f64-requires c κs = search needs
 
-hashed-requires : tie.Need-hashed-requires Inv-loop μ-loop
-hashed-requires c κs = search needs
+bits-of-f64-requires-2 : tie.Need-bits-of-f64-requires-2 Inv-loop μ-loop
+bits-of-f64-requires-2 c κs = search needs
+
+returns-2 : tie.Need-returns-2 Inv-loop μ-loop
+returns-2 c = search needs
 
 add-i : tie.Need-add-i Inv-loop μ-loop
 add-i c = search needs
@@ -35,21 +43,24 @@ loop-less c = search needs
 loop-again : tie.Need-loop-again Inv-loop μ-loop
 loop-again c = search needs
 
-returns : tie.Need-returns Inv-loop μ-loop
-returns c = search needs
+returns-3 : tie.Need-returns-3 Inv-loop μ-loop
+returns-3 c = search needs
 
-pub hash-table-spec : {M : Type 1} → statement M
-hash-table-spec =
+pub patterned-spec : {M : Type 1} → statement M
+patterned-spec =
     tie.close
     (tie.spec
     Inv-loop
     μ-loop
     loop-holds
+    returns
+    pattern-at-requires
     mul-bits-of-f64
     shared-slice-read-bits-of-f64
     bits-of-f64-requires
-    hashed-requires
+    bits-of-f64-requires-2
+    returns-2
     add-i
     loop-less
     loop-again
-    returns)
+    returns-3)
