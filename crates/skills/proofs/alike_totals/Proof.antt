@@ -36,14 +36,10 @@ part-difficulty-of-start : tie.Need-part-difficulty-of-start
 part-difficulty-of-start c = search needs
 
 part-difficulty-of-end : tie.Need-part-difficulty-of-end
-part-difficulty-of-end c = let w = c .before .before .before .before .before .before .walk-three in omega (arith, w .ensures .0 .0, w .kept .1 .1 .1 .1 .0, c .before .before .before .before .before .before .before .before .before .before .before .before .before .before .before .before .before .before .pre .1)
+part-difficulty-of-end c = search needs
 
 difficulty-of-requires : tie.Need-difficulty-of-requires
-difficulty-of-requires c κs =
-    let w = c .before .before .before .before .before .before .before .before .walk-three in
-    let few = w .ensures .0 .0 in
-    let long = w .kept .1 .1 .1 .1 .0 in
-    omega (arith, length-take-le (w .result .aim - 0) (w .last .1 .1 .1 .1 .0) (omega (arith, few, long, c .before .before .before .before .before .before .before .before .before .before .before .before .before .before .before .before .before .before .before .before .pre .1)), few, c .before .before .before .before .before .before .before .before .before .before .before .before .before .before .before .before .before .before .before .before .pre .4)
+difficulty-of-requires c κs = search needs
 
 sub-difficulty-of-2 : tie.Need-sub-difficulty-of-2
 sub-difficulty-of-2 c = search needs
@@ -52,14 +48,10 @@ part-difficulty-of-start-2 : tie.Need-part-difficulty-of-start-2
 part-difficulty-of-start-2 c = search needs
 
 part-difficulty-of-end-2 : tie.Need-part-difficulty-of-end-2
-part-difficulty-of-end-2 c = let w = c .before .before .before .before .before .before .before .before .before .before .before .before .before .walk-three in omega (arith, w .ensures .1 .0 .0, w .kept .1 .1 .1 .1 .1 .0, c .before .before .before .before .before .before .before .before .before .before .before .before .before .before .before .before .before .before .before .before .before .before .before .before .before .pre .2)
+part-difficulty-of-end-2 c = search needs
 
 difficulty-of-requires-2 : tie.Need-difficulty-of-requires-2
-difficulty-of-requires-2 c κs =
-    let w = c .before .before .before .before .before .before .before .before .before .before .before .before .before .before .before .walk-three in
-    let few = w .ensures .1 .0 .0 in
-    let long = w .kept .1 .1 .1 .1 .1 .0 in
-    omega (arith, length-take-le (w .result .«aim_no_sliders» - 0) (w .last .1 .1 .1 .1 .1 .0) (omega (arith, few, long, c .before .before .before .before .before .before .before .before .before .before .before .before .before .before .before .before .before .before .before .before .before .before .before .before .before .before .before .pre .2)), few, c .before .before .before .before .before .before .difficulty-of .kept .1 .1 .0, c .before .before .before .before .before .before .before .before .before .before .before .before .before .before .before .before .before .before .before .before .before .before .before .before .before .before .before .pre .4)
+difficulty-of-requires-2 c κs = search needs
 
 sub-difficulty-of-3 : tie.Need-sub-difficulty-of-3
 sub-difficulty-of-3 c = search needs
