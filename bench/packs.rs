@@ -17,20 +17,20 @@ struct Tables {
     scratch: Vec<Vec<f64>>,
 }
 
-fn lent(scratch: &mut [Vec<f64>]) -> [&mut [f64]; 4] {
+fn each(scratch: &mut [Vec<f64>]) -> [&mut [f64]; 4] {
     let [a, b, c, d] = scratch else { unreachable!() };
     [a, b, c, d]
 }
 
 impl Tables {
     fn rank(&mut self, pack: &[u8], list: &mut [u64], first: usize) {
-        station::join(pack, list, first, 0, 0, &NUMBERS, &mut self.records, &mut self.values, lent(&mut self.scratch)).expect("ranked");
+        station::join(pack, list, first, 0, 0, &NUMBERS, &mut self.records, &mut self.values, each(&mut self.scratch)).expect("ranked");
     }
 
     fn one_by_one(&mut self, pack: &[u8], size: usize) {
         for chart in pack.chunks(size) {
             station::open(chart, &mut self.records, &mut self.values).expect("opened");
-            station::ratings(chart, &self.values, 0, 0, &NUMBERS, lent(&mut self.scratch), &mut [0.0; 4]).expect("rated");
+            station::ratings(chart, &self.values, 0, 0, &NUMBERS, each(&mut self.scratch), &mut [0.0; 4]).expect("rated");
         }
     }
 }

@@ -11,7 +11,8 @@ use lib.ListN.{length, drop, getD, drop-of-length-le}
 use lib.Seq.{drop-cons}
 use borrow.Author.Tests.{lt-ltb, le-ltb, ltb-false}
 use Rattle.chart_opening.specs.Conditions.{refuseIf, firstOf, openVerdict}
-use Rattle.chart_opening.specs.Accepted.{opens-with, is-met, not-met, head-accepts, tail-accepts, first-accepts}
+use Rattle.chart_opening.specs.Accepted.{opens-with, header-ok, is-met, not-met, head-accepts, tail-accepts, first-accepts}
+use Rattle.chart_opening.proofs.Header.{parts, holds}
 use Rattle.chart_opening.specs.declared.Refusal.{Refusal}
 use Rattle.chart_opening.specs.declared.Refusal.the-variants.{Header, Table, Place, NotFinite}
 use Rattle.chart_opening.specs.declared.Verdict.{Verdict}
@@ -21,9 +22,8 @@ use Rattle.star_rating.specs.declared.Asked.{Asked}
 use Rattle.calls.specs.Tables.{valueEntries, entriesOf}
 use Rattle.calls.specs.Afresh.{count, ratings}
 use Rattle.calls.specs.Conditions.{Lengths, scratchShort, sumConditions, sumVerdict, askedConditions, figureConditions, figureVerdict, opening}
-use Rattle.calls.proofs.Refusals.{opening-met, sum-passed, figure-refused, figure-passed}
+use Rattle.calls.proofs.Refusals.{opening-met, sum-accepted, sum-passed, long, figure-refused, figure-passed}
 use Rattle.figures.specs.Answers.{Sums}
-use Rattle.figures.proofs.Outcomes.{sums}
 use Rattle.pack_order.specs.Listing.{mostCharts, Inside, isInside, chartAt}
 use Rattle.pack_order.proofs.Lies.{is-inside}
 use Rattle.pack.specs.Pack.{chartVerdict, listedVerdict, rankVerdict, chartCheck, listedCheck}
@@ -84,6 +84,14 @@ module _ (asked : Asked) (r v : ℕ) (l : Lengths) where
     pub sums : Sums b v l
     pub finite : firstOf (askedConditions (ratings asked) (count b)) ≡ Accepted
 
+  -- what its totals ask
+  summed : (b : List ℕ) → sumVerdict b (valueEntries v) (scratchShort l) ≡ Accepted → Sums b v l
+  summed b e =
+      let (o, rows, short) = sum-accepted l v b e in
+      let h = header-ok b o in
+      let s = long l short in
+      record { long = parts b h .long; holds = holds b h; rows = rows; aim = s .0; aimNoSliders = s .1; speed = s .2; flashlight = s .3 }
+
   pub rateable : (b : List ℕ) → chartVerdict asked r v l b ≡ Accepted → Rateable b
   unfolding chartVerdict figureConditions
   rateable b e =
@@ -91,7 +99,7 @@ module _ (asked : Asked) (r v : ℕ) (l : Lengths) where
       let s = first-accepts (sumConditions b (valueEntries v) (scratchShort l)) (askedConditions (ratings asked) (count b)) f in
       record {
         opens = head-accepts _ _ e;
-        sums = sums b v l s;
+        sums = summed b s;
         finite = sym (figure-passed b (valueEntries v) (scratchShort l) (ratings asked) s) ∙ f;
       }
 

@@ -19,7 +19,7 @@ use Rattle.calls.specs.Calls.{cleared}
 use Rattle.pack_order.specs.Listing as Listing
 use Rattle.pack_order.specs.Listing.{mostCharts, keyWidth, chartAt, Inside, ranked, rankedBy}
 use Rattle.pack_order.specs.Laws.{ranked-rated}
-use Rattle.pack.specs.Pack.{keyOf, listedVerdict, rankVerdict, Tables, tablesAfter, lent, rankAnswer, rankedLent, rankLeaves, listedCheck}
+use Rattle.pack.specs.Pack.{keyOf, listedVerdict, rankVerdict, Tables, tablesAfter, buffers, rankAnswer, rankedBuffers, rankLeaves, listedCheck}
 use Rattle.pack.proofs.Checks.{lies, checks, each, not-many, accepted}
 
 pub four : (asked : Asked) (b : List ℕ) → length (keyOf asked b) ≡ keyWidth
@@ -43,16 +43,16 @@ module _ (asked : Asked) (r v : ℕ) (l : Lengths) (pack list : List ℕ) where
 
 module _ (asked : Asked) (pack list : List ℕ) (t : Tables) (x : Scratch) where
   -- ---- What is left
-  pub refused-leaves : {q : Refusal} → Refused q ≡ rankAnswer asked pack (lent list t x) → lent list t x ≡ rankLeaves asked pack (lent list t x)
+  pub refused-leaves : {q : Refusal} → Refused q ≡ rankAnswer asked pack (buffers list t x) → buffers list t x ≡ rankLeaves asked pack (buffers list t x)
   unfolding rankLeaves ifAccepted
-  refused-leaves e = ap (λ (v : Verdict). ifAccepted v (rankedLent asked pack (lent list t x)) (λ r. lent list t x)) e
+  refused-leaves e = ap (λ (v : Verdict). ifAccepted v (rankedBuffers asked pack (buffers list t x)) (λ r. buffers list t x)) e
 
-  pub carried-leaves : Accepted ≡ rankAnswer asked pack (lent list t x) → rankedLent asked pack (lent list t x) ≡ rankLeaves asked pack (lent list t x)
+  pub carried-leaves : Accepted ≡ rankAnswer asked pack (buffers list t x) → rankedBuffers asked pack (buffers list t x) ≡ rankLeaves asked pack (buffers list t x)
   unfolding rankLeaves ifAccepted
-  carried-leaves e = ap (λ (v : Verdict). ifAccepted v (rankedLent asked pack (lent list t x)) (λ r. lent list t x)) e
+  carried-leaves e = ap (λ (v : Verdict). ifAccepted v (rankedBuffers asked pack (buffers list t x)) (λ r. buffers list t x)) e
 
   -- ---- Carried out
-  module _ (a : rankAnswer asked pack (lent list t x) ≡ Accepted) where
+  module _ (a : rankAnswer asked pack (buffers list t x) ≡ Accepted) where
     pub few : length list ≤ mostCharts
     unfolding rankAnswer
     few = accepted asked (length (t .records)) (length (t .values)) (lengths x) pack list a .0
@@ -66,7 +66,7 @@ module _ (asked : Asked) (pack list : List ℕ) (t : Tables) (x : Scratch) where
         lies asked (length (t .records)) (length (t .values)) (lengths x) pack (getD list i 0)
         (each (listedVerdict asked (length (t .records)) (length (t .values)) (lengths x) pack) list all-pass i h) .0
 
-    pub sortable : (keys : List Float) → keyWidth * length list ≤ length keys → Listing.Lent keys pack list
+    pub sortable : (keys : List Float) → keyWidth * length list ≤ length keys → Listing.Sortable keys pack list
     sortable keys h = record { room = h; inside = all-inside }
 
   pub listing : (keys₀ : List Float) → keyWidth * length list ≤ length keys₀ → {keys : List Float}
@@ -76,6 +76,6 @@ module _ (asked : Asked) (pack list : List ℕ) (t : Tables) (x : Scratch) where
   pub all-listed : {l : List ℕ} {u : Tables} (y : Scratch) {z : Scratch} → l ≡ ranked (keyOf asked) pack list → u ≡ tablesAfter pack list t → z ≡ cleared y
       → length (y .aim) ≡ length (x .aim) → length (y .aimNoSliders) ≡ length (x .aimNoSliders) → length (y .speed) ≡ length (x .speed)
       → length (y .flashlight) ≡ length (x .flashlight)
-      → lent l u z ≡ rankedLent asked pack (lent list t x)
-  unfolding rankedLent
-  all-listed y e f g j k m n = λ i. lent (e i) (f i) ((g ∙ cleared-same y x (λ p. record { aim = j p; aimNoSliders = k p; speed = m p; flashlight = n p })) i)
+      → buffers l u z ≡ rankedBuffers asked pack (buffers list t x)
+  unfolding rankedBuffers
+  all-listed y e f g j k m n = λ i. buffers (e i) (f i) ((g ∙ cleared-same y x (λ p. record { aim = j p; aimNoSliders = k p; speed = m p; flashlight = n p })) i)

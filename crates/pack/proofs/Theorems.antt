@@ -26,7 +26,7 @@ use Rattle.pack_order.specs.Laws.{chart-compares, chart-exact, chart-ties, char
 use Rattle.pack_order.specs.Sort.{All}
 use Rattle.pack_order.specs.Listing.{mostCharts, Inside, isInside, chartAt}
 use Rattle.pack_order.proofs.Lies.{is-inside}
-use Rattle.pack.specs.Pack.{freshTotals, keyOf, chartVerdict, listedVerdict, rankVerdict, Tables, tables, tablesOf, openedInto, tablesAfter, Lent, lent, rankAnswer, rankedLent, rankLeaves}
+use Rattle.pack.specs.Pack.{freshTotals, keyOf, chartVerdict, listedVerdict, rankVerdict, Tables, tables, tablesOf, openedInto, tablesAfter, Buffers, buffers, rankAnswer, rankedBuffers, rankLeaves}
 use Rattle.pack.specs.Statement.{Ordered, Numbers, Listed, openAll, Answered, Parts, Claims, listingOf}
 use Rattle.pack.proofs.Checks.{rateable, lies, stops, too-many}
 use Rattle.pack.proofs.Lists.{refused-leaves, carried-leaves, all-pass}
@@ -109,13 +109,13 @@ module _ (asked : Asked) (r v : ℕ) (l : Lengths) (pack : List ℕ) where
       let (kr, kv) = keeps o t er ev (q .0) in
       opens-all os (openedInto (chartAt pack o) t) kr kv (q .1) ∙ ap (openAll pack os) (sym (opens-into o t er ev (q .0)))
 
-module _ (asked : Asked) (pack : List ℕ) (x : Lent) where
+module _ (asked : Asked) (pack : List ℕ) (x : Buffers) where
   carried : rankAnswer asked pack x ≡ Accepted
-      → rankLeaves asked pack x ≡ lent (listingOf asked pack (x .list)) (openAll pack (x .list) (x .tables)) (cleared (x .scratch))
-  unfolding rankedLent
+      → rankLeaves asked pack x ≡ buffers (listingOf asked pack (x .list)) (openAll pack (x .list) (x .tables)) (cleared (x .scratch))
+  unfolding rankedBuffers
   carried e =
       sym (carried-leaves asked pack (x .list) (x .tables) (x .scratch) (sym e))
-      ∙ ap (λ (t : Tables). lent (listingOf asked pack (x .list)) t (cleared (x .scratch)))
+      ∙ ap (λ (t : Tables). buffers (listingOf asked pack (x .list)) t (cleared (x .scratch)))
       (opens-all asked (length (x .tables .records)) (length (x .tables .values)) (lengths (x .scratch)) pack (x .list) (x .tables) refl refl
       (to-all (listedVerdict asked (length (x .tables .records)) (length (x .tables .values)) (lengths (x .scratch)) pack) (x .list)
       (all-pass asked pack (x .list) (x .tables) (x .scratch) e)))
@@ -146,12 +146,12 @@ past asked r v l pack o h = go (isInside pack o) refl
 
 -- ---- Parts
 
-module _ (asked : Asked) (pack xs ys : List ℕ) (t : Tables) (x : Scratch) (e : rankAnswer asked pack (lent (xs ++ ys) t x) ≡ Accepted) where
-  left : (list : List ℕ) → rankAnswer asked pack (lent list t x) ≡ Accepted → rankLeaves asked pack (lent list t x) .list ≡ listingOf asked pack list
-  unfolding rankedLent
-  left list a = ap (λ (y : Lent). y .list) (sym (carried-leaves asked pack list t x (sym a)))
+module _ (asked : Asked) (pack xs ys : List ℕ) (t : Tables) (x : Scratch) (e : rankAnswer asked pack (buffers (xs ++ ys) t x) ≡ Accepted) where
+  left : (list : List ℕ) → rankAnswer asked pack (buffers list t x) ≡ Accepted → rankLeaves asked pack (buffers list t x) .list ≡ listingOf asked pack list
+  unfolding rankedBuffers
+  left list a = ap (λ (y : Buffers). y .list) (sym (carried-leaves asked pack list t x (sym a)))
 
-  joins : rankAnswer asked pack (lent (listingOf asked pack xs ++ listingOf asked pack ys) t x) ≡ Accepted
+  joins : rankAnswer asked pack (buffers (listingOf asked pack xs ++ listingOf asked pack ys) t x) ≡ Accepted
   unfolding rankAnswer
   joins = joined-parts asked (length (t .records)) (length (t .values)) (lengths x) pack xs ys e
 

@@ -1,5 +1,5 @@
--- Document 02, order 13, "Packs in order": what ranking a list of offsets into a pack answers and leaves. The order of charts and the listing are those of crate
--- pack_order; what makes a chart open and be rated, those of crate calls. Definitions only.
+-- Document 02, order 13, "Packs in order": what ranking a list of offsets into a pack answers and leaves. The order of charts and the listing are those of
+-- crate pack_order; what makes a chart open and be rated, those of crate calls. Definitions only.
 use Prim.Native.Nat.{ℕ}
 use mathlib.Core.Bool.{Bool, not}
 use mathlib.Core.List.{List, [], _∷_, map}
@@ -48,7 +48,8 @@ chartVerdict asked r v l b = firstOf (opening r v b ∷ figureVerdict (ratings a
 unfoldable pub listedVerdict : Asked → ℕ → ℕ → Lengths → List ℕ → ℕ → Verdict
 listedVerdict asked r v l pack o = firstOf (refuseIf (not (isInside pack o)) Header ∷ chartVerdict asked r v l (chartAt pack o) ∷ [])
 
--- a list: "a list over 256 offsets is 8 before any chart"; "The first listed chart that wouldn't open or be rated stops the ranking with its own number and place"
+-- a list: "a list over 256 offsets is 8 before any chart"; "The first listed chart that wouldn't open or be rated stops the ranking with its own number and
+-- place"
 unfoldable pub rankVerdict : Asked → ℕ → ℕ → Lengths → List ℕ → List ℕ → Verdict
 rankVerdict asked r v l pack list = firstOf (refuseIf (ltb mostCharts (length list)) Place ∷ map (listedVerdict asked r v l pack) list)
 
@@ -75,25 +76,25 @@ tablesAfter pack [] t = t
 tablesAfter pack (o ∷ os) t = tablesAfter pack os (openedInto (chartAt pack o) t)
 
 -- what is lent beside the pack: the list, the tables and the scratch of each skill
-pub record Lent : Type 0 where
+pub record Buffers : Type 0 where
   pub list : List ℕ
   pub tables : Tables
   pub scratch : Scratch
 
-abbrev pub lent : List ℕ → Tables → Scratch → Lent
-lent list t x = record { list = list; tables = t; scratch = x }
+abbrev pub buffers : List ℕ → Tables → Scratch → Buffers
+buffers list t x = record { list = list; tables = t; scratch = x }
 
 -- which chart's condition stops the ranking
-unfoldable pub rankAnswer : Asked → List ℕ → Lent → Verdict
+unfoldable pub rankAnswer : Asked → List ℕ → Buffers → Verdict
 rankAnswer asked pack x = rankVerdict asked (length (x .tables .records)) (length (x .tables .values)) (lengths (x .scratch)) pack (x .list)
 
 -- "Rank a lent list of offsets into the pack by it: the listing, in the list's place"; "and all scratch is 0"
-unfoldable pub rankedLent : Asked → List ℕ → Lent → Lent
-rankedLent asked pack x = lent (ranked (keyOf asked) pack (x .list)) (tablesAfter pack (x .list) (x .tables)) (cleared (x .scratch))
+unfoldable pub rankedBuffers : Asked → List ℕ → Buffers → Buffers
+rankedBuffers asked pack x = buffers (ranked (keyOf asked) pack (x .list)) (tablesAfter pack (x .list) (x .tables)) (cleared (x .scratch))
 
 -- a refusal "leaves list, tables and scratch unchanged"
-unfoldable pub rankLeaves : Asked → List ℕ → Lent → Lent
-rankLeaves asked pack x = ifAccepted (rankAnswer asked pack x) (rankedLent asked pack x) (λ r. x)
+unfoldable pub rankLeaves : Asked → List ℕ → Buffers → Buffers
+rankLeaves asked pack x = ifAccepted (rankAnswer asked pack x) (rankedBuffers asked pack x) (λ r. x)
 
 -- ---- The same conditions with what is the same for all charts at hand: the entries of the shorter table, short scratch, and whether the numbers are finite
 

@@ -1,5 +1,5 @@
--- What is claimed of packs: the order of charts (`Ordered`), a listing (`Listed`), what a ranking answers and leaves (`Answered`), and parts that are joined (`Parts`).
--- `Claims` has them all. Definitions only.
+-- What is claimed of packs: the order of charts (`Ordered`), a listing (`Listed`), what a ranking answers and leaves (`Answered`), and parts that are joined
+-- (`Parts`). `Claims` has them all. Definitions only.
 use Prim.Native.Nat.{ℕ, _≤_, _<_}
 use mathlib.Core.Path.{_≡_}
 use mathlib.Core.Logic.{_↔_, _⊎_}
@@ -23,7 +23,7 @@ use Rattle.pack_order.specs.Compare.{compareNumber, compareChart}
 use Rattle.pack_order.specs.Orders.{Compares}
 use Rattle.pack_order.specs.Sort as Sort
 use Rattle.pack_order.specs.Listing.{mostCharts, Inside, chartAt, listedBefore, ranked}
-use Rattle.pack.specs.Pack.{freshTotals, keyOf, chartVerdict, listedVerdict, rankVerdict, Tables, tablesOf, openedInto, Lent, lent, rankAnswer, rankLeaves}
+use Rattle.pack.specs.Pack.{freshTotals, keyOf, chartVerdict, listedVerdict, rankVerdict, Tables, tablesOf, openedInto, Buffers, buffers, rankAnswer, rankLeaves}
 
 -- ---- "This is a total order in which only charts of equal bytes tie"
 
@@ -69,13 +69,13 @@ unfoldable pub openAll : List ℕ → List ℕ → Tables → Tables
 openAll pack [] t = t
 openAll pack (o ∷ os) t = openAll pack os (tablesOf (openLeaves (state (chartAt pack o) (t .records) (t .values))))
 
-pub record Answered (asked : Asked) (pack : List ℕ) (x : Lent) : Type 0 where
+pub record Answered (asked : Asked) (pack : List ℕ) (x : Buffers) : Type 0 where
   pub too-many : mostCharts < length (x .list) → rankAnswer asked pack x ≡ Refused Place
   -- refused, it leaves all as it was lent
   pub refused : (q : Refusal) → rankAnswer asked pack x ≡ Refused q → rankLeaves asked pack x ≡ x
   -- carried out, the list is the listing, the tables stand as opening the charts in the lent order leaves them, and all scratch is 0
   pub carried : rankAnswer asked pack x ≡ Accepted
-      → rankLeaves asked pack x ≡ lent (listingOf asked pack (x .list)) (openAll pack (x .list) (x .tables)) (cleared (x .scratch))
+      → rankLeaves asked pack x ≡ buffers (listingOf asked pack (x .list)) (openAll pack (x .list) (x .tables)) (cleared (x .scratch))
   -- with an empty list no chart is tried
   pub empty : x .list ≡ [] → rankAnswer asked pack x ≡ Accepted
 
@@ -83,10 +83,10 @@ pub record Answered (asked : Asked) (pack : List ℕ) (x : Lent) : Type 0 where
 
 -- where the whole list xs, ys is carried out: so are its parts, and so is joining the listings of the parts, whose listing is the whole's
 pub record Parts (asked : Asked) (pack xs ys : List ℕ) (t : Tables) (x : Scratch) : Type 0 where
-  pub first : rankAnswer asked pack (lent xs t x) ≡ Accepted
-  pub second : rankAnswer asked pack (lent ys t x) ≡ Accepted
-  pub joined : rankAnswer asked pack (lent (listingOf asked pack xs ++ listingOf asked pack ys) t x) ≡ Accepted
-  pub listing : rankLeaves asked pack (lent (listingOf asked pack xs ++ listingOf asked pack ys) t x) .list ≡ rankLeaves asked pack (lent (xs ++ ys) t x) .list
+  pub first : rankAnswer asked pack (buffers xs t x) ≡ Accepted
+  pub second : rankAnswer asked pack (buffers ys t x) ≡ Accepted
+  pub joined : rankAnswer asked pack (buffers (listingOf asked pack xs ++ listingOf asked pack ys) t x) ≡ Accepted
+  pub listing : rankLeaves asked pack (buffers (listingOf asked pack xs ++ listingOf asked pack ys) t x) .list ≡ rankLeaves asked pack (buffers (xs ++ ys) t x) .list
 
 -- ---- All of it. The promises of `pack::rank` and `pack::join` are the same, word for word: joining two lists answers as ranking them as one.
 
@@ -101,11 +101,11 @@ pub record Claims : Type 0 where
   pub higher-first : (asked : Asked) (pack : List ℕ) (o p : ℕ) → compareChart (keyOf asked) (chartAt pack o) (chartAt pack p) ≡ Greater → standsBefore asked pack o p
   pub lower-first : (asked : Asked) (pack : List ℕ) (o p : ℕ) → chartAt pack o ≡ chartAt pack p → o < p → standsBefore asked pack o p
   pub listed : (asked : Asked) (pack list : List ℕ) → Listed asked pack list
-  pub answered : (asked : Asked) (pack : List ℕ) (x : Lent) → Answered asked pack x
+  pub answered : (asked : Asked) (pack : List ℕ) (x : Buffers) → Answered asked pack x
   -- "The first listed chart that wouldn't open or be rated stops the ranking with its own number and place"
   pub first : (asked : Asked) (r v : ℕ) (l : Lengths) (pack os : List ℕ) (o : ℕ) (ps : List ℕ) (q : Refusal)
       → length (os ++ (o ∷ ps)) ≤ mostCharts → rankVerdict asked r v l pack os ≡ Accepted
       → listedVerdict asked r v l pack o ≡ Refused q → rankVerdict asked r v l pack (os ++ (o ∷ ps)) ≡ Refused q
   -- "A chart that runs past the pack is 1"
   pub past : (asked : Asked) (r v : ℕ) (l : Lengths) (pack : List ℕ) (o : ℕ) → (Inside pack o → ⊥) → listedVerdict asked r v l pack o ≡ Refused Header
-  pub parts : (asked : Asked) (pack xs ys : List ℕ) (t : Tables) (x : Scratch) → rankAnswer asked pack (lent (xs ++ ys) t x) ≡ Accepted → Parts asked pack xs ys t x
+  pub parts : (asked : Asked) (pack xs ys : List ℕ) (t : Tables) (x : Scratch) → rankAnswer asked pack (buffers (xs ++ ys) t x) ≡ Accepted → Parts asked pack xs ys t x

@@ -14,8 +14,8 @@ ghost use Rattle.calls.specs.Conditions.{lengths, scratchShort, opening};
 ghost use Rattle.calls.specs.Calls.{cleared};
 ghost use Rattle.figures.specs.Answers.{Sums, scratchOf};
 ghost use Rattle.pack_order.specs.Listing.{chartAt, ranked, mostCharts, keyWidth};
-ghost use Rattle.pack.specs.Pack.{keyRow, keyFrom, keyOf, chartVerdict, listedVerdict, rankVerdict, tables, openedInto, tablesAfter, lent, rankAnswer};
-ghost use Rattle.pack.specs.Pack.{rankedLent, rankLeaves, chartCheck, listedCheck};
+ghost use Rattle.pack.specs.Pack.{keyRow, keyFrom, keyOf, chartVerdict, listedVerdict, rankVerdict, tables, openedInto, tablesAfter, buffers, rankAnswer};
+ghost use Rattle.pack.specs.Pack.{rankedBuffers, rankLeaves, chartCheck, listedCheck};
 use chart_opening::Refusal;
 use chart_opening::Verdict;
 use skills::Skills;
@@ -273,11 +273,11 @@ fn list_all(
     speed: &mut [f64],
     flashlight: &mut [f64],
 )
-    requires { ⌜ rankAnswer asked (now pack) (lent (now list) (tables (now records) (now values))
+    requires { ⌜ rankAnswer asked (now pack) (buffers (now list) (tables (now records) (now values))
         (scratchOf (now aim) (now «aim_no_sliders») (now speed) (now flashlight))) ≡ Accepted ⌝ }
-    ensures { λ _. ⌜ lent (now (list .exit)) (tables (now (records .exit)) (now (values .exit)))
+    ensures { λ _. ⌜ buffers (now (list .exit)) (tables (now (records .exit)) (now (values .exit)))
         (scratchOf (now (aim .exit)) (now («aim_no_sliders» .exit)) (now (speed .exit)) (now (flashlight .exit)))
-        ≡ rankedLent asked (now (pack .entry)) (lent (now (list .entry)) (tables (now (records .entry)) (now (values .entry)))
+        ≡ rankedBuffers asked (now (pack .entry)) (buffers (now (list .entry)) (tables (now (records .entry)) (now (values .entry)))
         (scratchOf (now (aim .entry)) (now («aim_no_sliders» .entry)) (now (speed .entry)) (now (flashlight .entry)))) ⌝ }
 {
     let mut keys = [0.0f64; KEY_WIDTH * MOST_CHARTS];
@@ -335,11 +335,11 @@ pub fn join(
     speed: &mut [f64],
     flashlight: &mut [f64],
 ) -> Verdict
-    ensures answer { λ r. ⌜ r ≡ rankAnswer asked (now (pack .entry)) (lent (now (list .entry)) (tables (now (records .entry)) (now (values .entry)))
+    ensures answer { λ r. ⌜ r ≡ rankAnswer asked (now (pack .entry)) (buffers (now (list .entry)) (tables (now (records .entry)) (now (values .entry)))
         (scratchOf (now (aim .entry)) (now («aim_no_sliders» .entry)) (now (speed .entry)) (now (flashlight .entry)))) ⌝ }
-    ensures leaves { λ _. ⌜ lent (now (list .exit)) (tables (now (records .exit)) (now (values .exit)))
+    ensures leaves { λ _. ⌜ buffers (now (list .exit)) (tables (now (records .exit)) (now (values .exit)))
         (scratchOf (now (aim .exit)) (now («aim_no_sliders» .exit)) (now (speed .exit)) (now (flashlight .exit)))
-        ≡ rankLeaves asked (now (pack .entry)) (lent (now (list .entry)) (tables (now (records .entry)) (now (values .entry)))
+        ≡ rankLeaves asked (now (pack .entry)) (buffers (now (list .entry)) (tables (now (records .entry)) (now (values .entry)))
         (scratchOf (now (aim .entry)) (now («aim_no_sliders» .entry)) (now (speed .entry)) (now (flashlight .entry)))) ⌝ }
     ensures pack { λ _. ⌜ now (pack .exit) ≡ now (pack .entry) ⌝ }
 {
@@ -385,11 +385,11 @@ pub fn rank(
     speed: &mut [f64],
     flashlight: &mut [f64],
 ) -> Verdict
-    ensures answer { λ r. ⌜ r ≡ rankAnswer asked (now (pack .entry)) (lent (now (list .entry)) (tables (now (records .entry)) (now (values .entry)))
+    ensures answer { λ r. ⌜ r ≡ rankAnswer asked (now (pack .entry)) (buffers (now (list .entry)) (tables (now (records .entry)) (now (values .entry)))
         (scratchOf (now (aim .entry)) (now («aim_no_sliders» .entry)) (now (speed .entry)) (now (flashlight .entry)))) ⌝ }
-    ensures leaves { λ _. ⌜ lent (now (list .exit)) (tables (now (records .exit)) (now (values .exit)))
+    ensures leaves { λ _. ⌜ buffers (now (list .exit)) (tables (now (records .exit)) (now (values .exit)))
         (scratchOf (now (aim .exit)) (now («aim_no_sliders» .exit)) (now (speed .exit)) (now (flashlight .exit)))
-        ≡ rankLeaves asked (now (pack .entry)) (lent (now (list .entry)) (tables (now (records .entry)) (now (values .entry)))
+        ≡ rankLeaves asked (now (pack .entry)) (buffers (now (list .entry)) (tables (now (records .entry)) (now (values .entry)))
         (scratchOf (now (aim .entry)) (now («aim_no_sliders» .entry)) (now (speed .entry)) (now (flashlight .entry)))) ⌝ }
     ensures pack { λ _. ⌜ now (pack .exit) ≡ now (pack .entry) ⌝ }
 {

@@ -13,7 +13,7 @@ use Rattle.chart_opening.specs.declared.Verdict.the-variants.{Accepted, Refused
 use Rattle.star_rating.specs.declared.Asked.{Asked}
 use Rattle.calls.specs.Conditions.{Lengths, lengths}
 use Rattle.pack_order.specs.Listing.{chartAt}
-use Rattle.pack.specs.Pack.{listedVerdict, rankVerdict, Lent, rankAnswer, rankedLent, rankLeaves}
+use Rattle.pack.specs.Pack.{listedVerdict, rankVerdict, Buffers, rankAnswer, rankedBuffers, rankLeaves}
 use Rattle.pack.proofs.Checks.{each, accepted, lies, rateable}
 use Rattle.station.specs.Codes.{noScratch, rankVerdictInto, rankInto}
 
@@ -30,7 +30,7 @@ both true true e = (refl, refl)
 both true false e = absurd (true≢false (sym e))
 both false q e = absurd (true≢false (sym e))
 
-module _ (asked : Asked) (pack : List ℕ) (x : Lent) where
+module _ (asked : Asked) (pack : List ℕ) (x : Buffers) where
   abbrev verdictWith : Lengths → Verdict
   verdictWith l = rankVerdict asked (length (x .tables .records)) (length (x .tables .values)) l pack (x .list)
 
@@ -41,11 +41,11 @@ module _ (asked : Asked) (pack : List ℕ) (x : Lent) where
     where
       go : (cramped ≡ true) × (ltb 0 (length (x .list)) ≡ true) → (w : Verdict) → w ≡ verdictWith noScratch
           → (w ≡ verdictWith (cond cramped noScratch (lengths (x .scratch))))
-          × (x ≡ ifAccepted (verdictWith (cond cramped noScratch (lengths (x .scratch)))) (rankedLent asked pack x) (λ r. x))
+          × (x ≡ ifAccepted (verdictWith (cond cramped noScratch (lengths (x .scratch)))) (rankedBuffers asked pack x) (λ r. x))
       go (c, h) Accepted e = absurd (none-accepted asked (length (x .tables .records)) (length (x .tables .values)) pack (x .list) (ltb-true 0 (length (x .list)) h) (sym e))
       go (c, h) (Refused q) e =
           let f : Refused q ≡ verdictWith (cond cramped noScratch (lengths (x .scratch))) = e ∙ sym (ap (λ (b : Bool). verdictWith (cond b noScratch (lengths (x .scratch)))) c) in
-          (f, ap (λ (v : Verdict). ifAccepted v (rankedLent asked pack x) (λ r. x)) f)
+          (f, ap (λ (v : Verdict). ifAccepted v (rankedBuffers asked pack x) (λ r. x)) f)
 
   empty : (list : List ℕ) → ltb 0 (length list) ≡ false → (r v : ℕ) (l m : Lengths) → rankVerdict asked r v l pack list ≡ rankVerdict asked r v m pack list
   unfolding rankVerdict firstOf
@@ -62,4 +62,4 @@ module _ (asked : Asked) (pack : List ℕ) (x : Lent) where
 
   pub enough-leaves : (cramped : Bool) → cramped && ltb 0 (length (x .list)) ≡ false → rankLeaves asked pack x ≡ rankInto asked cramped pack x
   unfolding rankLeaves rankInto
-  enough-leaves cramped h = ap (λ (v : Verdict). ifAccepted v (rankedLent asked pack x) (λ r. x)) (enough cramped h)
+  enough-leaves cramped h = ap (λ (v : Verdict). ifAccepted v (rankedBuffers asked pack x) (λ r. x)) (enough cramped h)

@@ -28,7 +28,7 @@ use Rattle.calls.specs.Conditions.{Scratch, Lengths, lengths, scratchShort, Ope
 use Rattle.chart_players.specs.Second.{under, secondVerdict}
 use Rattle.calls_players.specs.Second.{seen, outcomeAs}
 use Rattle.calls.specs.Calls.{Answer, refused, replaced, inserted, removed, recordIs, valuesAre, detailIs, figureIs, State, Outcome, refuse, execute, outcome, cleared}
-use Rattle.pack.specs.Pack.{Lent, rankVerdict, rankedLent}
+use Rattle.pack.specs.Pack.{Buffers, rankVerdict, rankedBuffers}
 
 -- 2^32
 abbrev pub placeSpan : ℕ
@@ -170,9 +170,9 @@ ratingsCramped room numbers = ltb room ratingsWidth || ltb numbers numbersWidth
 abbrev pub noScratch : Lengths
 noScratch = record { aim = 0; aimNoSliders = 0; speed = 0; flashlight = 0 }
 
-unfoldable pub rankVerdictInto : Asked → Bool → List ℕ → Lent → Verdict
+unfoldable pub rankVerdictInto : Asked → Bool → List ℕ → Buffers → Verdict
 rankVerdictInto asked cramped pack x =
     rankVerdict asked (length (x .tables .records)) (length (x .tables .values)) (cond cramped noScratch (lengths (x .scratch))) pack (x .list)
 
-unfoldable pub rankInto : Asked → Bool → List ℕ → Lent → Lent
-rankInto asked cramped pack x = ifAccepted (rankVerdictInto asked cramped pack x) (rankedLent asked pack x) (λ r. x)
+unfoldable pub rankInto : Asked → Bool → List ℕ → Buffers → Buffers
+rankInto asked cramped pack x = ifAccepted (rankVerdictInto asked cramped pack x) (rankedBuffers asked pack x) (λ r. x)

@@ -25,7 +25,7 @@ ghost use Rattle.station.specs.Codes.{codeOf, verdictCode, answerCode, r
 ghost use Rattle.station.specs.Codes.{aimWidth, rhythmWidth, countsWidth, ratingsWidth, askedOf, ratingsCramped};
 ghost use Rattle.station.specs.Codes.{readInto, figureInto, scratchInto, readIntoAs, figureIntoAs, scratchIntoAs};
 ghost use Rattle.station.specs.Codes.{numbersWidth, rankVerdictInto, rankInto};
-ghost use Rattle.pack.specs.Pack.{lent, tables};
+ghost use Rattle.pack.specs.Pack.{buffers, tables};
 use chart_opening::Refusal;
 use chart_opening::Verdict;
 use eval_aim::AimRule;
@@ -1250,12 +1250,12 @@ fn join_into(
     flashlight: &mut [f64],
     cramped: bool,
 ) -> Verdict
-    ensures answer { λ r. ⌜ r ≡ rankVerdictInto asked cramped (now (pack .entry)) (lent (now (list .entry))
+    ensures answer { λ r. ⌜ r ≡ rankVerdictInto asked cramped (now (pack .entry)) (buffers (now (list .entry))
         (tables (now (records .entry)) (now (values .entry)))
         (scratchOf (now (aim .entry)) (now («aim_no_sliders» .entry)) (now (speed .entry)) (now (flashlight .entry)))) ⌝ }
-    ensures leaves { λ _. ⌜ lent (now (list .exit)) (tables (now (records .exit)) (now (values .exit)))
+    ensures leaves { λ _. ⌜ buffers (now (list .exit)) (tables (now (records .exit)) (now (values .exit)))
         (scratchOf (now (aim .exit)) (now («aim_no_sliders» .exit)) (now (speed .exit)) (now (flashlight .exit)))
-        ≡ rankInto asked cramped (now (pack .entry)) (lent (now (list .entry)) (tables (now (records .entry)) (now (values .entry)))
+        ≡ rankInto asked cramped (now (pack .entry)) (buffers (now (list .entry)) (tables (now (records .entry)) (now (values .entry)))
         (scratchOf (now (aim .entry)) (now («aim_no_sliders» .entry)) (now (speed .entry)) (now (flashlight .entry)))) ⌝ }
 {
     if cramped & (0 < list.len()) {
@@ -1293,12 +1293,12 @@ pub extern "C" fn difficulty_join(
     flashlight: &mut [f64],
 ) -> u64
     ensures answer { λ r. ⌜ r ≡ verdictCode (rankVerdictInto (askedOf mods given (now (numbers .entry))) (ltb (length (now (numbers .entry))) numbersWidth)
-        (now (pack .entry)) (lent (now (list .entry)) (tables (now (records .entry)) (now (values .entry)))
+        (now (pack .entry)) (buffers (now (list .entry)) (tables (now (records .entry)) (now (values .entry)))
         (scratchOf (now (aim .entry)) (now («aim_no_sliders» .entry)) (now (speed .entry)) (now (flashlight .entry))))) ⌝ }
-    ensures leaves { λ _. ⌜ lent (now (list .exit)) (tables (now (records .exit)) (now (values .exit)))
+    ensures leaves { λ _. ⌜ buffers (now (list .exit)) (tables (now (records .exit)) (now (values .exit)))
         (scratchOf (now (aim .exit)) (now («aim_no_sliders» .exit)) (now (speed .exit)) (now (flashlight .exit)))
         ≡ rankInto (askedOf mods given (now (numbers .entry))) (ltb (length (now (numbers .entry))) numbersWidth)
-        (now (pack .entry)) (lent (now (list .entry)) (tables (now (records .entry)) (now (values .entry)))
+        (now (pack .entry)) (buffers (now (list .entry)) (tables (now (records .entry)) (now (values .entry)))
         (scratchOf (now (aim .entry)) (now («aim_no_sliders» .entry)) (now (speed .entry)) (now (flashlight .entry)))) ⌝ }
     ensures pack { λ _. ⌜ now (pack .exit) ≡ now (pack .entry) ⌝ }
     ensures numbers { λ _. ⌜ now (numbers .exit) ≡ now (numbers .entry) ⌝ }
@@ -1338,12 +1338,12 @@ pub extern "C" fn difficulty_rank(
     flashlight: &mut [f64],
 ) -> u64
     ensures answer { λ r. ⌜ r ≡ verdictCode (rankVerdictInto (askedOf mods given (now (numbers .entry))) (ltb (length (now (numbers .entry))) numbersWidth)
-        (now (pack .entry)) (lent (now (list .entry)) (tables (now (records .entry)) (now (values .entry)))
+        (now (pack .entry)) (buffers (now (list .entry)) (tables (now (records .entry)) (now (values .entry)))
         (scratchOf (now (aim .entry)) (now («aim_no_sliders» .entry)) (now (speed .entry)) (now (flashlight .entry))))) ⌝ }
-    ensures leaves { λ _. ⌜ lent (now (list .exit)) (tables (now (records .exit)) (now (values .exit)))
+    ensures leaves { λ _. ⌜ buffers (now (list .exit)) (tables (now (records .exit)) (now (values .exit)))
         (scratchOf (now (aim .exit)) (now («aim_no_sliders» .exit)) (now (speed .exit)) (now (flashlight .exit)))
         ≡ rankInto (askedOf mods given (now (numbers .entry))) (ltb (length (now (numbers .entry))) numbersWidth)
-        (now (pack .entry)) (lent (now (list .entry)) (tables (now (records .entry)) (now (values .entry)))
+        (now (pack .entry)) (buffers (now (list .entry)) (tables (now (records .entry)) (now (values .entry)))
         (scratchOf (now (aim .entry)) (now («aim_no_sliders» .entry)) (now (speed .entry)) (now (flashlight .entry)))) ⌝ }
     ensures pack { λ _. ⌜ now (pack .exit) ≡ now (pack .entry) ⌝ }
     ensures numbers { λ _. ⌜ now (numbers .exit) ≡ now (numbers .entry) ⌝ }

@@ -205,7 +205,7 @@ fn rank_with(
 }
 
 // Reads the lengths of tables and scratch, and ranks a list with as much.
-fn rank_lent(
+fn rank_within(
     out: &mut [u8],
     kind: usize,
     pack: &[u8],
@@ -258,7 +258,7 @@ fn rank(
     let asked = read_asked();
     let n = read_offsets(list);
     mark_all(a, b, c, d);
-    rank_lent(
+    rank_within(
         out,
         kind,
         pack,

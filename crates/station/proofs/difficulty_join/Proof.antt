@@ -4,7 +4,7 @@ use mathlib.Core.Path.{refl, sym, ap, _∙_}
 use lib.Dec.{ltb}
 use lib.ListN.{length}
 use Rattle.figures.specs.Answers.{scratchOf}
-use Rattle.pack.specs.Pack.{tables, lent}
+use Rattle.pack.specs.Pack.{tables, buffers}
 use Rattle.station.specs.Codes.{verdictCode, numbersWidth, rankVerdictInto, rankInto}
 use Rattle.station.proofs.difficulty_join.Statement.{statement}
 use Rattle.station.proofs.difficulty_join.Tie as tie
@@ -64,7 +64,7 @@ same-length-7 c = search needs
 returns : tie.Need-returns
 returns c =
     let a = c .before .before .before .before .before .before .before .before .before .before .before .before .before .before .before .before .before .before .before .before .before .before .before .before .before .before .before .before .before .before .before .before .before .before .before .before .args in
-    let x = (lent (a .list .now) (tables (a .records .now) (a .values .now)) (scratchOf (a .aim .now) (a .aim-no-sliders .now) (a .speed .now) (a .flashlight .now))) in
+    let x = (buffers (a .list .now) (tables (a .records .now) (a .values .now)) (scratchOf (a .aim .now) (a .aim-no-sliders .now) (a .speed .now) (a .flashlight .now))) in
     let e = c .before .before .before .before .before .before .before .before .before .before .before .before .before .before .before .before .before .before .join-into .ensures in
     let k = c .before .before .before .before .before .before .before .before .before .before .before .before .before .before .before .before .before .before .before .before .before .before .before .before .before .before .asked-of .ensures in
     let few = ltb (length (a .numbers .now)) numbersWidth in (
@@ -104,7 +104,7 @@ same-length-14 c = search needs
 returns-2 : tie.Need-returns-2
 returns-2 c =
     let a = c .before .before .before .before .before .before .before .before .before .before .before .before .before .before .before .before .before .before .before .before .before .before .before .before .before .before .before .before .before .before .before .before .before .before .args in
-    let x = (lent (a .list .now) (tables (a .records .now) (a .values .now)) (scratchOf (a .aim .now) (a .aim-no-sliders .now) (a .speed .now) (a .flashlight .now))) in
+    let x = (buffers (a .list .now) (tables (a .records .now) (a .values .now)) (scratchOf (a .aim .now) (a .aim-no-sliders .now) (a .speed .now) (a .flashlight .now))) in
     let e = c .before .before .before .before .before .before .before .before .before .before .before .before .before .before .before .before .join-into .ensures in
     let k = c .before .before .before .before .before .before .before .before .before .before .before .before .before .before .before .before .before .before .before .before .before .before .before .before .asked-of .ensures in
     let few = ltb (length (a .numbers .now)) numbersWidth in (

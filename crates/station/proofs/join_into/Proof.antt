@@ -2,7 +2,7 @@
 use borrow.Author.Needs.{needs}
 use mathlib.Core.Path.{_∙_}
 use Rattle.figures.specs.Answers.{scratchOf}
-use Rattle.pack.specs.Pack.{tables, lent}
+use Rattle.pack.specs.Pack.{tables, buffers}
 use Rattle.station.proofs.Ranks.{too-few, enough, enough-leaves}
 use Rattle.station.proofs.join_into.Statement.{statement}
 use Rattle.station.proofs.join_into.Tie as tie
@@ -19,7 +19,7 @@ same-length c = search needs
 
 -- src/lib.rt:744:9
 returns : tie.Need-returns
-returns c = let a = c .before .before .before .before .before .before .before .before .before .before .before .args in too-few (a .asked) (a .pack .now) (lent (a .list .now) (tables (a .records .now) (a .values .now)) (scratchOf (a .aim .now) (a .aim-no-sliders .now) (a .speed .now) (a .flashlight .now))) (a .cramped) (c .before .before .if1 .taken) (c .check .ensures .0)
+returns c = let a = c .before .before .before .before .before .before .before .before .before .before .before .args in too-few (a .asked) (a .pack .now) (buffers (a .list .now) (tables (a .records .now) (a .values .now)) (scratchOf (a .aim .now) (a .aim-no-sliders .now) (a .speed .now) (a .flashlight .now))) (a .cramped) (c .before .before .if1 .taken) (c .check .ensures .0)
 
 -- src/lib.rt:746:5
 join-requires : tie.Need-join-requires
@@ -58,8 +58,8 @@ returns-2 : tie.Need-returns-2
 returns-2 c =
     let a = c .before .before .before .before .before .before .before .before .before .before .before .before .before .before .before .before .before .before .before .before .before .before .before .before .before .before .before .before .before .before .before .args in
     let e = c .before .before .before .before .before .before .before .before .before .before .before .before .before .before .join .ensures in (
-      e .0 ∙ enough (a .asked) (a .pack .now) (lent (a .list .now) (tables (a .records .now) (a .values .now)) (scratchOf (a .aim .now) (a .aim-no-sliders .now) (a .speed .now) (a .flashlight .now))) (a .cramped) (c .before .before .before .before .before .before .before .before .before .before .before .before .before .before .before .before .before .before .before .before .before .before .if1 .left),
-      e .1 .0 ∙ enough-leaves (a .asked) (a .pack .now) (lent (a .list .now) (tables (a .records .now) (a .values .now)) (scratchOf (a .aim .now) (a .aim-no-sliders .now) (a .speed .now) (a .flashlight .now))) (a .cramped) (c .before .before .before .before .before .before .before .before .before .before .before .before .before .before .before .before .before .before .before .before .before .before .if1 .left),
+      e .0 ∙ enough (a .asked) (a .pack .now) (buffers (a .list .now) (tables (a .records .now) (a .values .now)) (scratchOf (a .aim .now) (a .aim-no-sliders .now) (a .speed .now) (a .flashlight .now))) (a .cramped) (c .before .before .before .before .before .before .before .before .before .before .before .before .before .before .before .before .before .before .before .before .before .before .if1 .left),
+      e .1 .0 ∙ enough-leaves (a .asked) (a .pack .now) (buffers (a .list .now) (tables (a .records .now) (a .values .now)) (scratchOf (a .aim .now) (a .aim-no-sliders .now) (a .speed .now) (a .flashlight .now))) (a .cramped) (c .before .before .before .before .before .before .before .before .before .before .before .before .before .before .before .before .before .before .before .before .before .before .if1 .left),
     )
 
 pub join-into-spec : {M : Type 1} → statement M
