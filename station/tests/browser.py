@@ -70,8 +70,9 @@ class Checks:
         """An act is refused with a sentence that has these words, and nothing moves."""
         before, shown = self.page.bytes(), self.page.shown()
         act()
-        self.page.wait("return !document.getElementById(arguments[0]).hidden", f"{what} is refused", bubble)
-        sentence = self.page.text(bubble)
+        # shown, and its sentence written, which may come a frame later
+        self.page.wait("const it = document.getElementById(arguments[0]); return !it.hidden && it.textContent.trim() !== ''", f"{what} is refused", bubble)
+        sentence = self.page.run("return document.getElementById(arguments[0]).textContent", bubble)
         assert words in sentence, f"{what}: {sentence!r} has not {words!r}"
         return before, shown
 
