@@ -156,7 +156,7 @@ module _ (a₀ b₀ : State) where
           let y : State = perform other (second s) .1 in
           let charts : x .chart ≡ compute (operationOf e) b .1 = g .chart ∙ ap (λ (z : Answer × List ℕ). z .1) p in
           let there : y .chart ≡ under (s .settings) (x .chart) =
-              g₂ .chart ∙ (ap (λ (z : Answer × List ℕ). z .1) p₂ ∙ (edited-under e (s .settings) _ _ b ok ∙ ap (under (s .settings)) (sym charts))) in
+          g₂ .chart ∙ (ap (λ (z : Answer × List ℕ). z .1) p₂ ∙ (edited-under e (s .settings) _ _ b ok ∙ ap (under (s .settings)) (sym charts))) in
           record {
             answer = ap answered (g .answer ∙ ap (λ (z : Answer × List ℕ). z .0) p);
             chart = charts;

@@ -46,9 +46,11 @@ module _ (t : List ℕ) (p₀ : Pair) where
     start =
         let (o, m) = opening-met (length (p₀ .records)) (length (p₀ .values)) (p₀ .chart) e in
         let (o₂, m₂) = opening-met (length (p₀ .secondRecords)) (length (p₀ .secondValues)) (under t (p₀ .chart)) (second-accepted t (p₀ .chart) _ e₂ .then) in
-        let k = opened-inv (seen t (secondOf p₀)) o₂ m₂ in
-        (refl, opened-inv (firstOf p₀) o m,
-        record { opens = k .opens; records-length = k .records-length; values-length = k .values-length; roomy = k .roomy; fresh = k .fresh })
+        let k = opened-inv (seen t (secondOf p₀)) o₂ m₂ in (
+          refl,
+          opened-inv (firstOf p₀) o m,
+          record { opens = k .opens; records-length = k .records-length; values-length = k .values-length; roomy = k .roomy; fresh = k .fresh },
+        )
 
     list : (ms : List Move) → Throughout performBoth AdmissibleBoth ms (openedBoth t p₀)
         → SoundBoth p₀ ms (after performBoth ms (openedBoth t p₀)) (answers performBoth ms (openedBoth t p₀))

@@ -92,7 +92,7 @@ module _ (t : List ℕ) where
   unfolding moved
   under-moved from to n l f h k m =
       let same : part from n (under t l) ≡ part from n l = ap (part from n) (under-long t l (omega arith))
-          ∙ part-put-after from n settingsStart (settingsFor t) l (omega (arith, for-length t)) (omega (arith, for-length t)) in
+      ∙ part-put-after from n settingsStart (settingsFor t) l (omega (arith, for-length t)) (omega (arith, for-length t)) in
       let long : length (part from n l) ≡ n = length-part from n l k in
       ap (λ (x : List ℕ). put to x (under t l)) same ∙ under-behind to (part from n l) l h (omega (arith, long))
 

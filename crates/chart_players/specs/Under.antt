@@ -195,7 +195,7 @@ module _ (b : List ℕ) (h : headerSize ≤ length b) where
   put-own =
       let x : List ℕ = drop settingsStart b in
       let e : drop (settingsStart + length (take settingsSize x)) b ≡ drop settingsSize x =
-          ap (λ (n : ℕ). drop (settingsStart + n) b) own-length ∙ sym (drop-drop settingsSize settingsStart b) in
+      ap (λ (n : ℕ). drop (settingsStart + n) b) own-length ∙ sym (drop-drop settingsSize settingsStart b) in
       ap (λ (y : List ℕ). take settingsStart b ++ (take settingsSize x ++ y)) e
       ∙ (ap (λ (y : List ℕ). take settingsStart b ++ y) (take-append-drop settingsSize x) ∙ take-append-drop settingsStart b)
 

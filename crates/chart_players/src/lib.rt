@@ -1,5 +1,5 @@
-// Two players over one chart (document 02, order 8): the second player's settings come with a call. Where a condition does not depend on the settings, one check
-// of the chart's bytes serves both players.
+// Two players over one chart (document 02, order 8): the second player's settings come with a call. Where a condition does not depend on the settings, one
+// check of the chart's bytes serves both players.
 
 ghost use mathlib.Core.Path.{_≡_};
 ghost use lib.ListN.{length};
@@ -33,7 +33,8 @@ pub fn header_ok_as(chart: &[u8], settings: &[u8]) -> bool
 
 // Conditions 1 to 7 for the second player; entries is the number of entries of that player's shortest table.
 pub fn check_as(chart: &[u8], settings: &[u8], entries: usize) -> Verdict
-    ensures { λ r. ⌜ r ≡ secondVerdict (now (settings .entry)) (now (chart .entry)) (openVerdict (under (now (settings .entry)) (now (chart .entry))) entries) ⌝ }
+    ensures { λ r. ⌜ r ≡ secondVerdict (now (settings .entry)) (now (chart .entry))
+        (openVerdict (under (now (settings .entry)) (now (chart .entry))) entries) ⌝ }
 {
     if !header_ok_as(chart, settings) {
         return Verdict::Refused(Refusal::Header);

@@ -38,7 +38,7 @@ fits-as t b r v e =
     let p = second-accepted t b _ e in
     let f = framed b (framed-under t b (p .header)) in
     let body = first-accepts (bodyConditions b (layoutOf b) (settingsAt t 0 .«clock_rate»)) _
-        (tail-accepts _ _ (sym (open-under t b (p .header) (p .size) (entriesOf r v)) ∙ p .then)) in
+    (tail-accepts _ _ (sym (open-under t b (p .header) (p .size) (entriesOf r v)) ∙ p .then)) in
     let ready : Ready b (layoutOf b) = body-ready b (layoutOf b) (settingsAt t 0 .«clock_rate») (holds-framed b f) body in
     let room : layoutOf (under t b) .n ≤ entriesOf r v = enough (under t b) (entriesOf r v) (p .then) in
     (record { ready = ready; long = f .long; few = ready .holds .few; records = omega (arith, room, count-under t b); values = omega (arith, room, count-under t b) }, p .size)

@@ -221,7 +221,7 @@ module _ (t b : List ℕ) (rs vs : List Float) where
       let p = second-accepted t b _ e in
       let s = settings-are t b (p .header) (p .size) in
       let x : openRecords (settingsOf (under t b)) (under t b) rs ≡ openRecords (settingsAt t 0) b rs =
-          ap (λ (y : Settings). openRecords y (under t b) rs) s ∙ open-records-under t b (settingsAt t 0) rs in
+      ap (λ (y : Settings). openRecords y (under t b) rs) s ∙ open-records-under t b (settingsAt t 0) rs in
       ap (λ (v : Verdict). ifAccepted v (openedAs t (state b rs vs)) (λ q. state b rs vs)) e
       ∙ ((λ z. state b (x z) (openValues (s z) (under t b) (x z) vs))
       ∙ ap (λ (y : List Float). state b (openRecords (settingsAt t 0) b rs) y) (open-values-under t b (settingsAt t 0) (openRecords (settingsAt t 0) b rs) vs))

@@ -67,7 +67,12 @@ pub fn open_as(chart: &[u8], settings: &[u8], records: &mut [f64], values: &mut 
     match chart_players::check_as(chart, settings, entries_in(records.len(), values.len())) {
         Verdict::Refused(r) => Verdict::Refused(r),
         Verdict::Accepted => {
-            fill_tables(chart, chart_opening::settings_at(settings, 0), records, values);
+            fill_tables(
+                chart,
+                chart_opening::settings_at(settings, 0),
+                records,
+                values,
+            );
             Verdict::Accepted
         }
     }
@@ -123,13 +128,7 @@ fn bring_up_to_date(
 }
 
 // Makes anew what another object at a place can have changed, once the chart has it.
-fn replace_rows(
-    chart: &[u8],
-    set: Settings,
-    place: usize,
-    records: &mut [f64],
-    values: &mut [f64],
-)
+fn replace_rows(chart: &[u8], set: Settings, place: usize, records: &mut [f64], values: &mut [f64])
     requires { ⌜ Fits (now chart) (length (now records)) (length (now values)) × (place < layoutOf (now chart) .n) ⌝ }
     ensures records { λ _. ⌜ now (records .exit) ≡ editRecords set (now (chart .entry)) place (replacedRecords place) (now (records .entry)) ⌝ }
     ensures values { λ _. ⌜ now (values .exit)
@@ -235,13 +234,7 @@ fn values_down(values: &mut [f64], from: usize, to: usize)
 }
 
 // Moves the rows of later objects up and makes anew what an object put in at a place can have changed, once the chart has it.
-fn insert_rows(
-    chart: &[u8],
-    set: Settings,
-    place: usize,
-    records: &mut [f64],
-    values: &mut [f64],
-)
+fn insert_rows(chart: &[u8], set: Settings, place: usize, records: &mut [f64], values: &mut [f64])
     requires { ⌜ Fits (now chart) (length (now records)) (length (now values)) × (place < layoutOf (now chart) .n) ⌝ }
     ensures records { λ _. ⌜ now (records .exit) ≡ editRecords set (now (chart .entry)) place (insertedRecords place)
         (rowsUp recordWidth (firstMoved place) (layoutOf (now (chart .entry)) .n - 1) (now (records .entry))) ⌝ }
@@ -284,13 +277,7 @@ pub fn insert(
 }
 
 // Moves the rows of later objects down and makes anew what an object taken out at a place can have changed, once the chart is without it.
-fn remove_rows(
-    chart: &[u8],
-    set: Settings,
-    place: usize,
-    records: &mut [f64],
-    values: &mut [f64],
-)
+fn remove_rows(chart: &[u8], set: Settings, place: usize, records: &mut [f64], values: &mut [f64])
     requires { ⌜ Fits (now chart) (length (now records)) (length (now values)) × (place ≤ layoutOf (now chart) .n)
         × (recordWidth * (layoutOf (now chart) .n + 1) ≤ length (now records)) × (valueWidth * (layoutOf (now chart) .n + 1) ≤ length (now values)) ⌝ }
     ensures records { λ _. ⌜ now (records .exit) ≡ editRecords set (now (chart .entry)) place (removedRecords place)

@@ -69,7 +69,12 @@ fn code(r: Refusal) -> u64
 
 // Checks a chart and fills its tables, for the second player with these settings.
 #[no_mangle]
-pub extern "C" fn difficulty_open_as(chart: &[u8], settings: &[u8], records: &mut [f64], values: &mut [f64]) -> u64
+pub extern "C" fn difficulty_open_as(
+    chart: &[u8],
+    settings: &[u8],
+    records: &mut [f64],
+    values: &mut [f64],
+) -> u64
     ensures answer { λ r. ⌜ r ≡ verdictCode (openAnswerAs (now (settings .entry)) (state (now (chart .entry)) (now (records .entry)) (now (values .entry)))) ⌝ }
     ensures leaves { λ _. ⌜ state (now (chart .exit)) (now (records .exit)) (now (values .exit))
         ≡ openLeavesAs (now (settings .entry)) (state (now (chart .entry)) (now (records .entry)) (now (values .entry))) ⌝ }
@@ -91,12 +96,7 @@ pub extern "C" fn difficulty_open(chart: &[u8], records: &mut [f64], values: &mu
     if chart.len() < chart_fields::HEADER_SIZE {
         return code(Refusal::Header);
     }
-    difficulty_open_as(
-        chart,
-        &chart[32..80],
-        records,
-        values,
-    )
+    difficulty_open_as(chart, &chart[32..80], records, values)
 }
 
 // Puts an object at a place of the chart and brings both tables up to date.
@@ -278,7 +278,13 @@ fn no_room(chart: &[u8], settings: &[u8]) -> Refusal
 }
 
 // The record of a place, for the second player and an answer with as much room.
-fn record_into(chart: &[u8], settings: &[u8], records: &[f64], place: usize, room: usize) -> RecordAnswer
+fn record_into(
+    chart: &[u8],
+    settings: &[u8],
+    records: &[f64],
+    place: usize,
+    room: usize,
+) -> RecordAnswer
     ensures { λ r. ⌜ result (recordAnswer r) (now (chart .exit)) (now (records .exit)) []
         ≡ readIntoAs (now (settings .entry)) 16 room (ops.readRecord place) (state (now (chart .entry)) (now (records .entry)) []) ⌝ }
 {
@@ -336,17 +342,17 @@ pub extern "C" fn difficulty_read_record(
     if chart.len() < chart_fields::HEADER_SIZE {
         return code(Refusal::Header);
     }
-    difficulty_read_record_as(
-        chart,
-        &chart[32..80],
-        records,
-        place,
-        out,
-    )
+    difficulty_read_record_as(chart, &chart[32..80], records, place, out)
 }
 
 // The values of a place, for the second player and an answer with as much room.
-fn values_into(chart: &[u8], settings: &[u8], values: &[f64], place: usize, room: usize) -> ValuesAnswer
+fn values_into(
+    chart: &[u8],
+    settings: &[u8],
+    values: &[f64],
+    place: usize,
+    room: usize,
+) -> ValuesAnswer
     ensures { λ r. ⌜ result (valuesAnswer r) (now (chart .exit)) [] (now (values .exit))
         ≡ readIntoAs (now (settings .entry)) 5 room (ops.readValues place) (state (now (chart .entry)) [] (now (values .entry))) ⌝ }
 {
@@ -403,13 +409,7 @@ pub extern "C" fn difficulty_read_values(
     if chart.len() < chart_fields::HEADER_SIZE {
         return code(Refusal::Header);
     }
-    difficulty_read_values_as(
-        chart,
-        &chart[32..80],
-        values,
-        place,
-        out,
-    )
+    difficulty_read_values_as(chart, &chart[32..80], values, place, out)
 }
 
 // Aim in its parts at a place, for the second player and an answer with as much room.
@@ -509,17 +509,17 @@ pub extern "C" fn difficulty_read_aim_parts(
     if chart.len() < chart_fields::HEADER_SIZE {
         return code(Refusal::Header);
     }
-    difficulty_read_aim_parts_as(
-        chart,
-        &chart[32..80],
-        records,
-        place,
-        out,
-    )
+    difficulty_read_aim_parts_as(chart, &chart[32..80], records, place, out)
 }
 
 // The rhythm value of a place with its comparisons, for the second player and an answer with as much room.
-fn rhythm_into(chart: &[u8], settings: &[u8], records: &[f64], place: usize, room: usize) -> RhythmAnswer
+fn rhythm_into(
+    chart: &[u8],
+    settings: &[u8],
+    records: &[f64],
+    place: usize,
+    room: usize,
+) -> RhythmAnswer
     ensures { λ r. ⌜ result (rhythmAnswer r) (now (chart .exit)) (now (records .exit)) []
         ≡ readIntoAs (now (settings .entry)) rhythmWidth room (ops.readDetail kinds.rhythm place) (state (now (chart .entry)) (now (records .entry)) []) ⌝ }
 {
@@ -573,13 +573,7 @@ pub extern "C" fn difficulty_read_rhythm(
     if chart.len() < chart_fields::HEADER_SIZE {
         return code(Refusal::Header);
     }
-    difficulty_read_rhythm_as(
-        chart,
-        &chart[32..80],
-        records,
-        place,
-        out,
-    )
+    difficulty_read_rhythm_as(chart, &chart[32..80], records, place, out)
 }
 
 // Why a figure of the second player without room is refused.
@@ -614,7 +608,11 @@ fn totals_into(
         (state (now (chart .entry)) [] (now (values .entry))) ⌝ }
 {
     if cramped {
-        return TotalsAnswer::Refused(refuse_sums(chart, settings, values.len() / calls::VALUE_WIDTH));
+        return TotalsAnswer::Refused(refuse_sums(
+            chart,
+            settings,
+            values.len() / calls::VALUE_WIDTH,
+        ));
     }
     figures::totals_as(
         chart,
@@ -745,7 +743,11 @@ fn totals_to_into(
         (state (now (chart .entry)) [] (now (values .entry))) ⌝ }
 {
     if cramped {
-        return TotalsAnswer::Refused(refuse_sums(chart, settings, values.len() / calls::VALUE_WIDTH));
+        return TotalsAnswer::Refused(refuse_sums(
+            chart,
+            settings,
+            values.len() / calls::VALUE_WIDTH,
+        ));
     }
     figures::totals_to_as(
         chart,
@@ -945,7 +947,11 @@ fn counts_into(
         (state (now (chart .entry)) [] (now (values .entry))) ⌝ }
 {
     if cramped {
-        return CountsAnswer::Refused(refuse_sums(chart, settings, values.len() / calls::VALUE_WIDTH));
+        return CountsAnswer::Refused(refuse_sums(
+            chart,
+            settings,
+            values.len() / calls::VALUE_WIDTH,
+        ));
     }
     figures::counts_as(
         chart,
@@ -1110,7 +1116,11 @@ fn ratings_into(
         (state (now (chart .entry)) [] (now (values .entry))) ⌝ }
 {
     if cramped {
-        return RatingsAnswer::Refused(refuse_sums(chart, settings, values.len() / calls::VALUE_WIDTH));
+        return RatingsAnswer::Refused(refuse_sums(
+            chart,
+            settings,
+            values.len() / calls::VALUE_WIDTH,
+        ));
     }
     figures::ratings_as(
         chart,

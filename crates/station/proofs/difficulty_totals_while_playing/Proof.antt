@@ -25,9 +25,10 @@ unfolding refuse listAfter
 returns c =
     let a = c .before .before .before .before .before .before .before .before .before .args in
     let x = (scratchOf (a .aim .now) (a .aim-no-sliders .now) (a .speed .now) (a .flashlight .now)) in
-    let h = c .before .if1 .taken in
-    (c .code .ensures ∙ ap verdictCode (sym (verdict-short (figure (playing (length (a .list .now) / totalsWidth)) (lengths x)) (state (a .chart .now) [] (a .values .now)) h)),
-    (ap (λ (o : Outcome). listAfter (o .answer) (a .list .now)) (sym (outcome-short (figure (playing (length (a .list .now) / totalsWidth)) (lengths x)) (state (a .chart .now) [] (a .values .now)) h)), (refl, sym (scratch-short (playing (length (a .list .now) / totalsWidth)) (state (a .chart .now) [] (a .values .now)) x h))))
+    let h = c .before .if1 .taken in (
+      c .code .ensures ∙ ap verdictCode (sym (verdict-short (figure (playing (length (a .list .now) / totalsWidth)) (lengths x)) (state (a .chart .now) [] (a .values .now)) h)),
+      (ap (λ (o : Outcome). listAfter (o .answer) (a .list .now)) (sym (outcome-short (figure (playing (length (a .list .now) / totalsWidth)) (lengths x)) (state (a .chart .now) [] (a .values .now)) h)), (refl, sym (scratch-short (playing (length (a .list .now) / totalsWidth)) (state (a .chart .now) [] (a .values .now)) x h))),
+    )
 
 sub-difficulty-totals-while-playing-as : tie.Need-sub-difficulty-totals-while-playing-as
 sub-difficulty-totals-while-playing-as c = search needs
@@ -62,9 +63,10 @@ returns-2 c =
     let a = c .before .before .before .before .before .before .before .before .before .before .before .before .before .before .before .before .before .before .before .before .before .before .before .before .before .args in
     let x = (scratchOf (a .aim .now) (a .aim-no-sliders .now) (a .speed .now) (a .flashlight .now)) in
     let h = c .before .before .before .before .before .before .before .before .before .before .before .before .before .before .before .before .before .if1 .left in
-    let e = c .before .before .before .before .before .before .before .before .before .before .difficulty-totals-while-playing-as .ensures in
-    (e .0 ∙ ap verdictCode (own-verdict (state (a .chart .now) [] (a .values .now)) h (figure (playing (length (a .list .now) / totalsWidth)) (lengths x))),
-    (e .1 .0 ∙ ap (λ (o : Outcome). listAfter (o .answer) (a .list .now)) (own-outcome (state (a .chart .now) [] (a .values .now)) h (figure (playing (length (a .list .now) / totalsWidth)) (lengths x)) tt), (e .1 .1 .0, e .1 .1 .1 .0 ∙ own-scratch (state (a .chart .now) [] (a .values .now)) h (playing (length (a .list .now) / totalsWidth)) x)))
+    let e = c .before .before .before .before .before .before .before .before .before .before .difficulty-totals-while-playing-as .ensures in (
+      e .0 ∙ ap verdictCode (own-verdict (state (a .chart .now) [] (a .values .now)) h (figure (playing (length (a .list .now) / totalsWidth)) (lengths x))),
+      (e .1 .0 ∙ ap (λ (o : Outcome). listAfter (o .answer) (a .list .now)) (own-outcome (state (a .chart .now) [] (a .values .now)) h (figure (playing (length (a .list .now) / totalsWidth)) (lengths x)) tt), (e .1 .1 .0, e .1 .1 .1 .0 ∙ own-scratch (state (a .chart .now) [] (a .values .now)) h (playing (length (a .list .now) / totalsWidth)) x)),
+    )
 
 pub difficulty-totals-while-playing-spec : {M : Type 1} → statement M
 difficulty-totals-while-playing-spec =
