@@ -24,7 +24,7 @@ use Rattle.chart_inserting.specs.Insert.{insertObject, removeObject, noRoom, in
 use Rattle.star_rating.specs.Stars.{finiteAsked}
 use Rattle.calls.specs.Tables.{entriesOf}
 use Rattle.calls.specs.Afresh.{Detail, Figure, totals, counts, totalsTo, playing, ratings, count}
-use Rattle.calls.specs.Conditions.{Lengths, scratchShort, replace, insert, remove, readRecord, readValues, readDetail, figure, readConditions, readVerdict, sumConditions, askedConditions, figureConditions, opening, refusal}
+use Rattle.calls.specs.Conditions.{Lengths, scratchShort, replace, insert, remove, readRecord, readValues, readDetail, figure, rowConditions, readConditions, readVerdict, sumConditions, askedConditions, figureConditions, opening, refusal}
 use Rattle.calls.specs.Statement.{Lowest, Placed, ReplacePlaced, of-chart, of-place, of-length, of-result, InsertPlaced, insert-of-chart, insert-of-place, insert-of-room, insert-of-length, insert-of-result, RemovePlaced, remove-of-chart, remove-of-place, remove-of-result}
 
 pub same-refusal : {q r : Refusal} → Refused q ≡ Refused r → q ≡ r
@@ -120,7 +120,7 @@ figure-placed f l r v b =
 -- ---- A reading: 1, 7 and 8, with place 0
 
 read-placed : (b : List ℕ) (entries k : ℕ) (q : Refusal) → readVerdict b entries k ≡ Refused q → refusalPlace q ≡ 0
-unfolding readConditions
+unfolding readConditions rowConditions
 read-placed b entries k =
     let P : Refusal → Type 0 = λ q. refusalPlace q ≡ 0 in
     first-each P _ (each-if P (not (headerOk b)) Header refl, (each-if P (ltb entries (count b)) Table refl, (each-if P (not (ltb 0 k && ltb k (count b))) Place refl, tt)))

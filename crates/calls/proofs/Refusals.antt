@@ -20,7 +20,7 @@ use Rattle.chart_replacing.specs.Accepted.{Taken, taken, room}
 use Rattle.chart_inserting.specs.Accepted.{Inserted, Removed, inserted, insert-entries, removed, remove-entries}
 use Rattle.calls.specs.Tables.{recordWidth, valueWidth, leastScratch, entriesOf}
 use Rattle.calls.specs.Afresh.{Detail, Figure, count}
-use Rattle.calls.specs.Conditions.{Lengths, replace, insert, remove, readRecord, readValues, readDetail, figure, scratchShort, readConditions, readVerdict, sumConditions, sumVerdict, askedConditions, figureConditions, figureVerdict, opening, refusal}
+use Rattle.calls.specs.Conditions.{Lengths, replace, insert, remove, readRecord, readValues, readDetail, figure, scratchShort, rowConditions, readConditions, readVerdict, sumConditions, sumVerdict, askedConditions, figureConditions, figureVerdict, opening, refusal}
 
 or-false : (a b : Bool) → (a || b) ≡ false → (a ≡ false) × (b ≡ false)
 or-false true b e = let z : _≡_ {A = ℕ} 0 1 = cc in absurd (omega arith)
@@ -60,7 +60,7 @@ pub record Read (b : List ℕ) (entries k : ℕ) : Type 0 where
   pub below : k < count b
 
 pub accepted-read : (b : List ℕ) (entries k : ℕ) → readVerdict b entries k ≡ Accepted → Read b entries k
-unfolding readConditions
+unfolding readConditions rowConditions
 accepted-read b entries k e =
     let t = both (ltb 0 k) (ltb k (layoutOf b .n)) (is-met (ltb 0 k && ltb k (layoutOf b .n)) Place (head-accepts _ _ (tail-accepts _ _ (tail-accepts _ _ e)))) in
     record {

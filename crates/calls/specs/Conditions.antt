@@ -45,13 +45,13 @@ pub data Operation : Type 0 where
   readDetail : Detail → ℕ → Operation
   figure : Figure → Lengths → Operation
 
+-- 7 and 8 of a reading, for a chart of n objects and a table of as many entries
+unfoldable pub rowConditions : ℕ → ℕ → ℕ → List Verdict
+rowConditions n entries k = tooFew entries n ∷ refuseIf (not (ltb 0 k && ltb k n)) Place ∷ []
+
 -- reading a place of a table with as many entries: "1, then 7, then 8 unless the place is 1 to N-1"
 unfoldable pub readConditions : List ℕ → ℕ → ℕ → List Verdict
-readConditions b entries k =
-    refuseIf (not (headerOk b)) Header
-    ∷ tooFew entries (layoutOf b .n)
-    ∷ refuseIf (not (ltb 0 k && ltb k (layoutOf b .n))) Place
-    ∷ []
+readConditions b entries k = refuseIf (not (headerOk b)) Header ∷ rowConditions (layoutOf b .n) entries k
 
 abbrev pub readVerdict : List ℕ → ℕ → ℕ → Verdict
 readVerdict b entries k = firstOf (readConditions b entries k)

@@ -205,7 +205,7 @@ pub fn first_bad_fields(chart: &[u8], lay: Layout) -> usize
 }
 
 // Condition 5 at the place of the later object: its start is before its predecessor's.
-fn falls_at(chart: &[u8], lay: Layout, i: usize) -> bool
+pub fn falls_at(chart: &[u8], lay: Layout, i: usize) -> bool
     requires { ⌜ Holds (now chart) lay × (i < lay .n) ⌝ }
     ensures { λ r. ⌜ r ≡ falls (now (chart .entry)) lay i ⌝ }
 {

@@ -1,7 +1,7 @@
 -- Document 01, "What each call answers": the conditions that a call tries, in their order, each with its number and place. Definitions only.
 use Prim.Native.Nat.{ℕ}
 use mathlib.Core.Path.{_≡_}
-use mathlib.Core.Bool.{Bool, cond, not}
+use mathlib.Core.Bool.{Bool, cond, not, _||_}
 use mathlib.Core.List.{List, [], _∷_, _++_}
 use lib.Dec.{ltb}
 use lib.Ieee.{Float}
@@ -64,6 +64,10 @@ ifAccepted Accepted x f = x
 ifAccepted (Refused r) x f = f r
 
 -- ---- The chart
+
+-- an object that meets condition 3, 4 or 5
+unfoldable pub atFault : List ℕ → Layout → ℕ → Bool
+atFault s lay i = badFields s lay i || badEntries s lay i || falls s lay i
 
 -- conditions 3 to 6; "Each is tried over the whole chart before the next"
 unfoldable pub bodyConditions : List ℕ → Layout → Float → List Verdict

@@ -5,9 +5,11 @@ ghost use Prim.Native.Nat.{_+_, _*_, _^_, _<_, _≤_};
 ghost use lib.ListN.{length};
 ghost use Rattle.chart_fields.specs.Limits.{headerSize, pointSize};
 ghost use Rattle.chart_fields.specs.Objects.{Holds};
+ghost use Rattle.chart_fields.specs.Search.{firstBelow};
 ghost use Rattle.chart_opening.specs.Limits.{settingsSize};
-ghost use Rattle.chart_opening.specs.Header.{sizeFor, layoutOf, countsOk, offsetsOk, frameOk, flagsOk, headerOk, settingsAt, settingsOk, farApart, tooLong};
-ghost use Rattle.chart_opening.specs.Conditions.{refusalNumber, refusalPlace, firstOf, bodyConditions, underConditions, openVerdict};
+ghost use Rattle.chart_opening.specs.Header.{sizeFor, layoutOf, countsOk, offsetsOk, frameOk, flagsOk, headerOk};
+ghost use Rattle.chart_opening.specs.Header.{settingsAt, settingsOk, farApart, tooLong};
+ghost use Rattle.chart_opening.specs.Conditions.{refusalNumber, refusalPlace, firstOf, atFault, bodyConditions, underConditions, openVerdict};
 use chart_fields::Layout;
 
 // A chart's settings, the flags taken apart.
@@ -211,8 +213,35 @@ pub fn too_long(chart: &[u8], lay: Layout, clock: f64) -> bool
     far_apart(last.start, first.start, clock)
 }
 
+// Whether the object at a place breaks condition 3, 4 or 5.
+fn at_fault(chart: &[u8], lay: Layout, i: usize) -> bool
+    requires { ⌜ Holds (now chart) lay × (i < lay .n) ⌝ }
+    ensures { λ r. ⌜ r ≡ atFault (now (chart .entry)) lay i ⌝ }
+{
+    let f = chart_fields::fields_of(chart, lay, i);
+    !chart_fields::fields_ok(f)
+        | chart_entries::wrong_entries(chart, lay, f)
+        | chart_fields::falls_at(chart, lay, i)
+}
+
+// The lowest place that breaks condition 3, 4 or 5, or n.
+fn first_fault(chart: &[u8], lay: Layout) -> usize
+    requires { ⌜ Holds (now chart) lay ⌝ }
+    ensures { λ r. ⌜ r ≡ firstBelow (atFault (now (chart .entry)) lay) (lay .n) ⌝ }
+{
+    let n = lay.n;
+    let mut i = 0;
+    while i < n {
+        if at_fault(chart, lay, i) {
+            return i;
+        }
+        i += 1;
+    }
+    i
+}
+
 // Conditions 3 to 6, each over the whole chart before the next.
-pub fn check_body(chart: &[u8], lay: Layout, clock: f64) -> Verdict
+fn check_in_turn(chart: &[u8], lay: Layout, clock: f64) -> Verdict
     requires { ⌜ Holds (now chart) lay ⌝ }
     ensures { λ r. ⌜ r ≡ firstOf (bodyConditions (now (chart .entry)) lay clock) ⌝ }
 {
@@ -228,6 +257,20 @@ pub fn check_body(chart: &[u8], lay: Layout, clock: f64) -> Verdict
     let order = chart_fields::first_fall(chart, lay);
     if order < n {
         return Verdict::Refused(Refusal::Order(order));
+    }
+    if too_long(chart, lay, clock) {
+        return Verdict::Refused(Refusal::Length);
+    }
+    Verdict::Accepted
+}
+
+// Conditions 3 to 6. A chart without a fault is gone over once; where there is one, the conditions' order names it.
+pub fn check_body(chart: &[u8], lay: Layout, clock: f64) -> Verdict
+    requires { ⌜ Holds (now chart) lay ⌝ }
+    ensures { λ r. ⌜ r ≡ firstOf (bodyConditions (now (chart .entry)) lay clock) ⌝ }
+{
+    if first_fault(chart, lay) < lay.n {
+        return check_in_turn(chart, lay, clock);
     }
     if too_long(chart, lay, clock) {
         return Verdict::Refused(Refusal::Length);

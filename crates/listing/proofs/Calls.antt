@@ -23,7 +23,7 @@ use Rattle.skills.specs.declared.Skills.{Skills}
 use Rattle.skills_counts.specs.declared.ObjectCounts.{ObjectCounts}
 use Rattle.calls.specs.Tables.{recordWidth, valueWidth}
 use Rattle.calls.specs.Afresh.{Figure, totals, counts, totalsAre, countsAre, figureOf, freshFigure}
-use Rattle.calls.specs.Conditions.{Scratch, lengths, scratchShort, readValues, figure, readConditions, askedConditions, opening, refusal}
+use Rattle.calls.specs.Conditions.{Scratch, lengths, scratchShort, readValues, figure, rowConditions, readConditions, askedConditions, opening, refusal}
 use Rattle.calls.specs.Calls.{Answer, refused, valuesAre, figureIs, State, state, opened, openAnswer, openLeaves, execute, verdictIn, outcome}
 use Rattle.calls.specs.Statement.{Fresh}
 use Rattle.calls.proofs.Refusals.{opening-none, figure-accepted}
@@ -100,7 +100,7 @@ module _ (b : List ℕ) (vs : List Float) (f : Filled b vs) where
 
   module _ (j : ℕ) (one : 1 ≤ j) (below : j < layoutOf b .n) where
     not-refused : verdictIn (readValues j) (state b [] vs) ≡ Accepted
-    unfolding verdictIn refusal readConditions firstOf
+    unfolding verdictIn refusal readConditions rowConditions firstOf
     not-refused =
         let h : layoutOf b .n ≤ length vs / valueWidth = omega (arith, f .rows) in
         simp (header-ok b (f .opens), le-ltb (length vs / valueWidth) (layoutOf b .n) h, lt-ltb 0 j one, lt-ltb j (layoutOf b .n) below)

@@ -4,14 +4,13 @@
 ghost use mathlib.Core.Path.{_≡_};
 ghost use mathlib.Core.List.{[]};
 ghost use lib.ListN.{length};
-ghost use Rattle.num_tables.specs.Parts.{part};
-ghost use Rattle.chart_opening.specs.Limits.{settingsSize};
 ghost use Rattle.chart_opening.specs.Header.{settingsOf};
+ghost use Rattle.chart_opening.specs.Conditions.{firstOf};
 ghost use Rattle.chart_players.specs.Second.{under, secondVerdict};
 ghost use Rattle.calls.specs.Afresh as details;
 ghost use Rattle.calls.specs.Afresh.{detailFrom};
 ghost use Rattle.calls.specs.Conditions as ops;
-ghost use Rattle.calls.specs.Conditions.{readVerdict};
+ghost use Rattle.calls.specs.Conditions.{rowConditions, readVerdict};
 ghost use Rattle.calls.specs.Calls.{state, result, outcome};
 ghost use Rattle.calls_players.specs.Second.{outcomeAs};
 ghost use Rattle.readings.specs.Answers.{InTable, recordAnswer, valuesAnswer, aimFinding, aimAnswer, rhythmFinding, rhythmAnswer};
@@ -55,8 +54,31 @@ pub enum RhythmAnswer {
     Refused(Refusal),
 }
 
-// Conditions 1, 7 and 8 of a reading for the second player, with 2 right after 1 for settings of another length, for a table of as many entries.
-fn check_reading(chart: &[u8], settings: &[u8], entries: usize, place: usize) -> Verdict
+// Conditions 7 and 8 of a reading, for a chart of n objects and a table of as many entries.
+fn check_place(n: usize, entries: usize, place: usize) -> Verdict
+    ensures { λ r. ⌜ r ≡ firstOf (rowConditions n entries place) ⌝ }
+{
+    if entries < n {
+        return Verdict::Refused(Refusal::Table);
+    }
+    if (0 < place) & (place < n) {
+        return Verdict::Accepted;
+    }
+    Verdict::Refused(Refusal::Place)
+}
+
+// Conditions 1, 7 and 8 of a reading.
+fn check_reading(chart: &[u8], entries: usize, place: usize) -> Verdict
+    ensures { λ r. ⌜ r ≡ readVerdict (now (chart .entry)) entries place ⌝ }
+{
+    if !chart_opening::header_ok(chart) {
+        return Verdict::Refused(Refusal::Header);
+    }
+    check_place(chart_opening::layout_of(chart).n, entries, place)
+}
+
+// The same for the second player, with 2 right after 1 for settings of another length.
+fn check_reading_as(chart: &[u8], settings: &[u8], entries: usize, place: usize) -> Verdict
     ensures { λ r. ⌜ r ≡ secondVerdict (now (settings .entry)) (now (chart .entry))
         (readVerdict (under (now (settings .entry)) (now (chart .entry))) entries place) ⌝ }
 {
@@ -66,14 +88,18 @@ fn check_reading(chart: &[u8], settings: &[u8], entries: usize, place: usize) ->
     if settings.len() != chart_players::SETTINGS_SIZE {
         return Verdict::Refused(Refusal::Setting);
     }
-    let lay = chart_opening::layout_of(chart);
-    if entries < lay.n {
-        return Verdict::Refused(Refusal::Table);
+    check_place(chart_opening::layout_of(chart).n, entries, place)
+}
+
+// The record of a place, as the table has it.
+pub fn read_record(chart: &[u8], records: &[f64], place: usize) -> RecordAnswer
+    ensures { λ r. ⌜ result (recordAnswer r) (now (chart .exit)) (now (records .exit)) []
+        ≡ outcome (ops.readRecord place) (state (now (chart .entry)) (now (records .entry)) []) ⌝ }
+{
+    match check_reading(chart, records.len() / calls::RECORD_WIDTH, place) {
+        Verdict::Refused(r) => RecordAnswer::Refused(r),
+        Verdict::Accepted => RecordAnswer::Record(osu_records::record_at(records, place)),
     }
-    if (0 < place) & (place < lay.n) {
-        return Verdict::Accepted;
-    }
-    Verdict::Refused(Refusal::Place)
 }
 
 // The record of a place, as the table has it, for the second player.
@@ -82,32 +108,9 @@ pub fn read_record_as(chart: &[u8], settings: &[u8], records: &[f64], place: usi
         ≡ outcomeAs (now (settings .entry)) (ops.readRecord place) (state (now (chart .entry)) (now (records .entry)) []) ⌝ }
     ensures settings { λ _. ⌜ now (settings .exit) ≡ now (settings .entry) ⌝ }
 {
-    match check_reading(chart, settings, records.len() / calls::RECORD_WIDTH, place) {
+    match check_reading_as(chart, settings, records.len() / calls::RECORD_WIDTH, place) {
         Verdict::Refused(r) => RecordAnswer::Refused(r),
         Verdict::Accepted => RecordAnswer::Record(osu_records::record_at(records, place)),
-    }
-}
-
-// The record of a place, as the table has it.
-pub fn read_record(chart: &[u8], records: &[f64], place: usize) -> RecordAnswer
-    ensures { λ r. ⌜ result (recordAnswer r) (now (chart .exit)) (now (records .exit)) []
-        ≡ outcome (ops.readRecord place) (state (now (chart .entry)) (now (records .entry)) []) ⌝ }
-{
-    if chart.len() < chart_fields::HEADER_SIZE {
-        return RecordAnswer::Refused(Refusal::Header);
-    }
-    read_record_as(chart, &chart[32..80], records, place)
-}
-
-// The values of a place, as the table has them, for the second player.
-pub fn read_values_as(chart: &[u8], settings: &[u8], values: &[f64], place: usize) -> ValuesAnswer
-    ensures { λ r. ⌜ result (valuesAnswer r) (now (chart .exit)) [] (now (values .exit))
-        ≡ outcomeAs (now (settings .entry)) (ops.readValues place) (state (now (chart .entry)) [] (now (values .entry))) ⌝ }
-    ensures settings { λ _. ⌜ now (settings .exit) ≡ now (settings .entry) ⌝ }
-{
-    match check_reading(chart, settings, values.len() / calls::VALUE_WIDTH, place) {
-        Verdict::Refused(r) => ValuesAnswer::Refused(r),
-        Verdict::Accepted => ValuesAnswer::Values(eval_values::row_at(values, place)),
     }
 }
 
@@ -116,10 +119,22 @@ pub fn read_values(chart: &[u8], values: &[f64], place: usize) -> ValuesAnswer
     ensures { λ r. ⌜ result (valuesAnswer r) (now (chart .exit)) [] (now (values .exit))
         ≡ outcome (ops.readValues place) (state (now (chart .entry)) [] (now (values .entry))) ⌝ }
 {
-    if chart.len() < chart_fields::HEADER_SIZE {
-        return ValuesAnswer::Refused(Refusal::Header);
+    match check_reading(chart, values.len() / calls::VALUE_WIDTH, place) {
+        Verdict::Refused(r) => ValuesAnswer::Refused(r),
+        Verdict::Accepted => ValuesAnswer::Values(eval_values::row_at(values, place)),
     }
-    read_values_as(chart, &chart[32..80], values, place)
+}
+
+// The values of a place, as the table has them, for the second player.
+pub fn read_values_as(chart: &[u8], settings: &[u8], values: &[f64], place: usize) -> ValuesAnswer
+    ensures { λ r. ⌜ result (valuesAnswer r) (now (chart .exit)) [] (now (values .exit))
+        ≡ outcomeAs (now (settings .entry)) (ops.readValues place) (state (now (chart .entry)) [] (now (values .entry))) ⌝ }
+    ensures settings { λ _. ⌜ now (settings .exit) ≡ now (settings .entry) ⌝ }
+{
+    match check_reading_as(chart, settings, values.len() / calls::VALUE_WIDTH, place) {
+        Verdict::Refused(r) => ValuesAnswer::Refused(r),
+        Verdict::Accepted => ValuesAnswer::Values(eval_values::row_at(values, place)),
+    }
 }
 
 // Aim at a place from 1 to n - 1, from the records of the table; no setting plays a part.
@@ -138,27 +153,27 @@ fn aim_at(chart: &[u8], records: &[f64], place: usize) -> AimDetail
     }
 }
 
+// Aim's value at a place with its parts, from the records of the table.
+pub fn read_aim_parts(chart: &[u8], records: &[f64], place: usize) -> AimAnswer
+    ensures { λ r. ⌜ result (aimAnswer r) (now (chart .exit)) (now (records .exit)) []
+        ≡ outcome (ops.readDetail details.aimParts place) (state (now (chart .entry)) (now (records .entry)) []) ⌝ }
+{
+    match check_reading(chart, records.len() / calls::RECORD_WIDTH, place) {
+        Verdict::Refused(r) => AimAnswer::Refused(r),
+        Verdict::Accepted => AimAnswer::Aim(aim_at(chart, records, place)),
+    }
+}
+
 // Aim's value at a place with its parts, from the records of the table, for the second player.
 pub fn read_aim_parts_as(chart: &[u8], settings: &[u8], records: &[f64], place: usize) -> AimAnswer
     ensures { λ r. ⌜ result (aimAnswer r) (now (chart .exit)) (now (records .exit)) []
         ≡ outcomeAs (now (settings .entry)) (ops.readDetail details.aimParts place) (state (now (chart .entry)) (now (records .entry)) []) ⌝ }
     ensures settings { λ _. ⌜ now (settings .exit) ≡ now (settings .entry) ⌝ }
 {
-    match check_reading(chart, settings, records.len() / calls::RECORD_WIDTH, place) {
+    match check_reading_as(chart, settings, records.len() / calls::RECORD_WIDTH, place) {
         Verdict::Refused(r) => AimAnswer::Refused(r),
         Verdict::Accepted => AimAnswer::Aim(aim_at(chart, records, place)),
     }
-}
-
-// Aim's value at a place with its parts, from the records of the table.
-pub fn read_aim_parts(chart: &[u8], records: &[f64], place: usize) -> AimAnswer
-    ensures { λ r. ⌜ result (aimAnswer r) (now (chart .exit)) (now (records .exit)) []
-        ≡ outcome (ops.readDetail details.aimParts place) (state (now (chart .entry)) (now (records .entry)) []) ⌝ }
-{
-    if chart.len() < chart_fields::HEADER_SIZE {
-        return AimAnswer::Refused(Refusal::Header);
-    }
-    read_aim_parts_as(chart, &chart[32..80], records, place)
 }
 
 // The rhythm value at a place from 1 to n - 1 and its comparisons, from the records of the table.
@@ -170,28 +185,31 @@ fn rhythm_at(chart: &[u8], set: Settings, records: &[f64], place: usize) -> Coun
     eval_rhythm::evaluate_counted(records, chart, lay, place, set.hit_window)
 }
 
+// The rhythm value of a place, and how often an island was compared with a kept one for it, from the records of the table.
+pub fn read_rhythm(chart: &[u8], records: &[f64], place: usize) -> RhythmAnswer
+    ensures { λ r. ⌜ result (rhythmAnswer r) (now (chart .exit)) (now (records .exit)) []
+        ≡ outcome (ops.readDetail details.rhythm place) (state (now (chart .entry)) (now (records .entry)) []) ⌝ }
+{
+    match check_reading(chart, records.len() / calls::RECORD_WIDTH, place) {
+        Verdict::Refused(r) => RhythmAnswer::Refused(r),
+        Verdict::Accepted => {
+            let set = chart_opening::settings_at(chart, calls::SETTINGS_AT);
+            RhythmAnswer::Rhythm(rhythm_at(chart, set, records, place))
+        }
+    }
+}
+
 // The rhythm value of a place, and how often an island was compared with a kept one for it, from the records of the table, for the second player.
 pub fn read_rhythm_as(chart: &[u8], settings: &[u8], records: &[f64], place: usize) -> RhythmAnswer
     ensures { λ r. ⌜ result (rhythmAnswer r) (now (chart .exit)) (now (records .exit)) []
         ≡ outcomeAs (now (settings .entry)) (ops.readDetail details.rhythm place) (state (now (chart .entry)) (now (records .entry)) []) ⌝ }
     ensures settings { λ _. ⌜ now (settings .exit) ≡ now (settings .entry) ⌝ }
 {
-    match check_reading(chart, settings, records.len() / calls::RECORD_WIDTH, place) {
+    match check_reading_as(chart, settings, records.len() / calls::RECORD_WIDTH, place) {
         Verdict::Refused(r) => RhythmAnswer::Refused(r),
         Verdict::Accepted => {
             let set = chart_opening::settings_at(settings, 0);
             RhythmAnswer::Rhythm(rhythm_at(chart, set, records, place))
         }
     }
-}
-
-// The rhythm value of a place, and how often an island was compared with a kept one for it, from the records of the table.
-pub fn read_rhythm(chart: &[u8], records: &[f64], place: usize) -> RhythmAnswer
-    ensures { λ r. ⌜ result (rhythmAnswer r) (now (chart .exit)) (now (records .exit)) []
-        ≡ outcome (ops.readDetail details.rhythm place) (state (now (chart .entry)) (now (records .entry)) []) ⌝ }
-{
-    if chart.len() < chart_fields::HEADER_SIZE {
-        return RhythmAnswer::Refused(Refusal::Header);
-    }
-    read_rhythm_as(chart, &chart[32..80], records, place)
 }

@@ -1,85 +1,60 @@
 -- `chart_opening::check_body` meets its contract. Assumes nothing.
+use Prim.Native.Nat.{_≤_}
 use mathlib.Core.Path.{sym, _∙_}
-use borrow.Author.Tests.{lt-ltb, le-ltb}
-use Rattle.chart_opening.specs.Conditions.{firstOf, bodyConditions}
+use native.Mathlib.Omega.{arith}
+use borrow.Author.Tests.{le-ltb}
+use Rattle.chart_fields.specs.Search.{firstBelow}
+use Rattle.chart_opening.specs.Conditions.{firstOf, atFault, bodyConditions}
+use Rattle.chart_opening.proofs.Faults.{no-bad-fields, no-bad-entries, no-falls}
 use borrow.Author.Needs.{needs}
 use Rattle.chart_opening.proofs.check_body.Statement.{statement}
 use Rattle.chart_opening.proofs.check_body.Tie as tie
 
-first-bad-fields-requires : tie.Need-first-bad-fields-requires
-first-bad-fields-requires c κs = search needs
+first-fault-requires : tie.Need-first-fault-requires
+first-fault-requires c κs = search needs
+
+check-in-turn-requires : tie.Need-check-in-turn-requires
+check-in-turn-requires c κs = search needs
 
 returns : tie.Need-returns
-unfolding firstOf bodyConditions
-returns c = simp (sym (c .before .first-bad-fields .ensures), lt-ltb _ _ (c .if1 .taken))
-
-first-bad-entries-requires : tie.Need-first-bad-entries-requires
-first-bad-entries-requires c κs = search needs
-
-returns-2 : tie.Need-returns-2
-unfolding firstOf bodyConditions
-returns-2 c =
-    simp (
-      sym (c .before .before .before .first-bad-fields .ensures),
-      le-ltb _ _ (c .before .before .if1 .left),
-      sym (c .before .first-bad-entries .ensures),
-      lt-ltb _ _ (c .if2 .taken),
-    )
-
-first-fall-requires : tie.Need-first-fall-requires
-first-fall-requires c κs = search needs
-
-returns-3 : tie.Need-returns-3
-unfolding firstOf bodyConditions
-returns-3 c =
-    simp (
-      sym (c .before .before .before .before .before .first-bad-fields .ensures),
-      le-ltb _ _ (c .before .before .before .before .if1 .left),
-      sym (c .before .before .before .first-bad-entries .ensures),
-      le-ltb _ _ (c .before .before .if2 .left),
-      sym (c .before .first-fall .ensures),
-      lt-ltb _ _ (c .if3 .taken),
-    )
+returns c = search needs
 
 too-long-requires : tie.Need-too-long-requires
 too-long-requires c κs = search needs
 
-returns-4 : tie.Need-returns-4
+returns-2 : tie.Need-returns-2
 unfolding firstOf bodyConditions
-returns-4 c =
+returns-2 c =
+    let a = c .before .before .before .before .before .before .args in
+    let h : a .lay .n ≤ firstBelow (atFault (a .chart .now) (a .lay)) (a .lay .n) = omega (arith, c .before .before .if1 .left, c .before .before .before .before .first-fault .ensures) in
     simp (
-      sym (c .before .before .before .before .before .before .before .first-bad-fields .ensures),
-      le-ltb _ _ (c .before .before .before .before .before .before .if1 .left),
-      sym (c .before .before .before .before .before .first-bad-entries .ensures),
-      le-ltb _ _ (c .before .before .before .before .if2 .left),
-      sym (c .before .before .before .first-fall .ensures),
-      le-ltb _ _ (c .before .before .if3 .left),
-      sym (c .before .too-long .ensures) ∙ c .if4 .taken,
+      no-bad-fields (a .chart .now) (a .lay) h,
+      no-bad-entries (a .chart .now) (a .lay) h,
+      no-falls (a .chart .now) (a .lay) h,
+      le-ltb (a .lay .n) (a .lay .n) (omega arith),
+      sym (c .before .too-long .ensures) ∙ c .if2 .taken,
     )
 
-returns-5 : tie.Need-returns-5
+returns-3 : tie.Need-returns-3
 unfolding firstOf bodyConditions
-returns-5 c =
+returns-3 c =
+    let a = c .before .before .before .before .before .before .args in
+    let h : a .lay .n ≤ firstBelow (atFault (a .chart .now) (a .lay)) (a .lay .n) = omega (arith, c .before .before .if1 .left, c .before .before .before .before .first-fault .ensures) in
     simp (
-      sym (c .before .before .before .before .before .before .before .first-bad-fields .ensures),
-      le-ltb _ _ (c .before .before .before .before .before .before .if1 .left),
-      sym (c .before .before .before .before .before .first-bad-entries .ensures),
-      le-ltb _ _ (c .before .before .before .before .if2 .left),
-      sym (c .before .before .before .first-fall .ensures),
-      le-ltb _ _ (c .before .before .if3 .left),
-      sym (c .before .too-long .ensures) ∙ c .if4 .left,
+      no-bad-fields (a .chart .now) (a .lay) h,
+      no-bad-entries (a .chart .now) (a .lay) h,
+      no-falls (a .chart .now) (a .lay) h,
+      le-ltb (a .lay .n) (a .lay .n) (omega arith),
+      sym (c .before .too-long .ensures) ∙ c .if2 .left,
     )
 
 pub check-body-spec : {M : Type 1} → statement M
 check-body-spec =
     tie.close
     (tie.spec
-    first-bad-fields-requires
+    first-fault-requires
+    check-in-turn-requires
     returns
-    first-bad-entries-requires
-    returns-2
-    first-fall-requires
-    returns-3
     too-long-requires
-    returns-4
-    returns-5)
+    returns-2
+    returns-3)

@@ -1,51 +1,39 @@
-use Rattle.calls_players.proofs.Own.{outcome-short, own-outcome}
-use Rattle.calls_players.specs.Statement.{Reads}
-use Rattle.calls.specs.Calls.{state, refuse}
-use Rattle.calls.specs.Conditions.{readRecord, readValues, readDetail}
-use Rattle.calls.specs.Afresh.{aimParts, rhythm}
-use Rattle.num_tables.specs.Parts.{part}
+-- `readings::read_aim_parts` meets its contract. Assumes nothing.
+use mathlib.Core.Path.{sym, _∙_}
 use mathlib.Core.List.{[]}
-use mathlib.Core.Path.{sym, ap, _∙_}
+use Rattle.calls.specs.Afresh.{aimParts}
+use Rattle.calls.specs.Calls.{detailIs, result}
+use Rattle.readings.proofs.Outcomes.{detail-refused, detail-read, in-table}
 use borrow.Author.Needs.{needs}
 use Rattle.readings.proofs.read_aim_parts.Statement.{statement}
 use Rattle.readings.proofs.read_aim_parts.Tie as tie
-use Rattle.readings.proofs.read_aim_parts.Reads as reads
-use Rattle.readings.proofs.read_aim_parts.Lts as lts
-use Rattle.readings.proofs.read_aim_parts_as.Reads as read-aim-parts-as-reads
 
--- src/lib.rt:159:9
+check-reading-requires : tie.Need-check-reading-requires
+check-reading-requires c κs = search needs
+
+enum-known-r : tie.Need-enum-known-r
+enum-known-r c = search needs
+
+enum-told : tie.Need-enum-told
+enum-told c = search needs
+
+aim-at-requires : tie.Need-aim-at-requires
+aim-at-requires c κs =
+    let a = c .before .before .before .before .before .args in
+    in-table (a .chart .now) (a .records .now) (a .place) (sym (c .before .before .check-reading .ensures) ∙ c .enum-told .given .1)
+
 returns : tie.Need-returns
-unfolding refuse
-returns c = let a = c .before .before .before .args in sym (outcome-short (readDetail aimParts (a .place)) (state (a .chart .now) (a .records .now) []) (c .if1 .taken))
+returns c =
+    let a = c .before .before .before .before .before .before .args in
+    sym (detail-refused (a .chart .now) (a .records .now) (a .place) aimParts _ (sym (c .before .before .before .check-reading .ensures) ∙ c .before .r .given .1))
 
--- src/lib.rt:161:30
-sub-read-aim-parts-as : tie.Need-sub-read-aim-parts-as
-sub-read-aim-parts-as c = search needs
-
--- src/lib.rt:161:30
-part-read-aim-parts-as-start : tie.Need-part-read-aim-parts-as-start
-part-read-aim-parts-as-start c = search needs
-
--- src/lib.rt:161:30
-part-read-aim-parts-as-end : tie.Need-part-read-aim-parts-as-end
-part-read-aim-parts-as-end c = search needs
-
--- src/lib.rt:161:5
-read-aim-parts-as-requires : tie.Need-read-aim-parts-as-requires
-read-aim-parts-as-requires c κs = search needs
-
--- src/lib.rt:154:1
 returns-2 : tie.Need-returns-2
-unfolding part Reads
-returns-2 c = let a = c .before .before .before .before .before .args in c .read-aim-parts-as .ensures .0 ∙ own-outcome (state (a .chart .now) (a .records .now) []) (c .before .before .if1 .left) (readDetail aimParts (a .place)) tt
+returns-2 c =
+    let a = c .before .before .before .before .before .before .args in
+    (λ i. result (detailIs (c .aim-at .ensures i)) (a .chart .now) (a .records .now) [])
+    ∙ sym (detail-read (a .chart .now) (a .records .now) (a .place) aimParts (sym (c .before .before .before .check-reading .ensures) ∙ c .before .enum-told .given .1))
 
 pub read-aim-parts-spec : {M : Type 1} → statement M
 read-aim-parts-spec =
     tie.close
-    (tie.spec
-    returns
-    sub-read-aim-parts-as
-    part-read-aim-parts-as-start
-    part-read-aim-parts-as-end
-    read-aim-parts-as-requires
-    returns-2)
+    (tie.spec check-reading-requires enum-known-r enum-told aim-at-requires returns returns-2)

@@ -1,51 +1,40 @@
-use Rattle.calls_players.proofs.Own.{outcome-short, own-outcome}
-use Rattle.calls_players.specs.Statement.{Reads}
-use Rattle.calls.specs.Calls.{state, refuse}
-use Rattle.calls.specs.Conditions.{readRecord, readValues, readDetail}
-use Rattle.calls.specs.Afresh.{aimParts, rhythm}
-use Rattle.num_tables.specs.Parts.{part}
+-- `readings::read_record` meets its contract. Assumes nothing.
+use mathlib.Core.Path.{sym, _∙_}
 use mathlib.Core.List.{[]}
-use mathlib.Core.Path.{sym, ap, _∙_}
+use native.Mathlib.Omega.{arith}
+use Rattle.chart_opening.proofs.Header.{holds}
+use Rattle.calls.specs.Calls.{recordIs, result}
+use Rattle.calls.proofs.Refusals.{accepted-read}
+use Rattle.readings.proofs.Outcomes.{record-refused, record-read}
 use borrow.Author.Needs.{needs}
 use Rattle.readings.proofs.read_record.Statement.{statement}
 use Rattle.readings.proofs.read_record.Tie as tie
-use Rattle.readings.proofs.read_record.Reads as reads
-use Rattle.readings.proofs.read_record.Lts as lts
-use Rattle.readings.proofs.read_record_as.Reads as read-record-as-reads
 
--- src/lib.rt:97:9
+check-reading-requires : tie.Need-check-reading-requires
+check-reading-requires c κs = search needs
+
+enum-known-r : tie.Need-enum-known-r
+enum-known-r c = search needs
+
+enum-told : tie.Need-enum-told
+enum-told c = search needs
+
+record-at-requires : tie.Need-record-at-requires
+record-at-requires c κs =
+    let d = accepted-read _ _ _ (sym (c .before .before .check-reading .ensures) ∙ c .enum-told .given .1) in (omega (arith, holds _ (d .header) .few, d .below), omega (arith, d .room, d .below))
+
 returns : tie.Need-returns
-unfolding refuse
-returns c = let a = c .before .before .before .args in sym (outcome-short (readRecord (a .place)) (state (a .chart .now) (a .records .now) []) (c .if1 .taken))
+returns c =
+    let a = c .before .before .before .before .before .before .args in
+    sym (record-refused (a .chart .now) (a .records .now) (a .place) _ (sym (c .before .before .before .check-reading .ensures) ∙ c .before .r .given .1))
 
--- src/lib.rt:99:27
-sub-read-record-as : tie.Need-sub-read-record-as
-sub-read-record-as c = search needs
-
--- src/lib.rt:99:27
-part-read-record-as-start : tie.Need-part-read-record-as-start
-part-read-record-as-start c = search needs
-
--- src/lib.rt:99:27
-part-read-record-as-end : tie.Need-part-read-record-as-end
-part-read-record-as-end c = search needs
-
--- src/lib.rt:99:5
-read-record-as-requires : tie.Need-read-record-as-requires
-read-record-as-requires c κs = search needs
-
--- src/lib.rt:92:1
 returns-2 : tie.Need-returns-2
-unfolding part Reads
-returns-2 c = let a = c .before .before .before .before .before .args in c .read-record-as .ensures .0 ∙ own-outcome (state (a .chart .now) (a .records .now) []) (c .before .before .if1 .left) (readRecord (a .place)) tt
+returns-2 c =
+    let a = c .before .before .before .before .before .before .args in
+    (λ i. result (recordIs (c .record-at .ensures i)) (a .chart .now) (a .records .now) [])
+    ∙ sym (record-read (a .chart .now) (a .records .now) (a .place) (sym (c .before .before .before .check-reading .ensures) ∙ c .before .enum-told .given .1))
 
 pub read-record-spec : {M : Type 1} → statement M
 read-record-spec =
     tie.close
-    (tie.spec
-    returns
-    sub-read-record-as
-    part-read-record-as-start
-    part-read-record-as-end
-    read-record-as-requires
-    returns-2)
+    (tie.spec check-reading-requires enum-known-r enum-told record-at-requires returns returns-2)

@@ -1,48 +1,32 @@
-use Rattle.chart_players.specs.Under.{framed-under}
-use Rattle.chart_opening.proofs.Header.{framed, holds-framed}
-use Rattle.chart_opening.specs.declared.Settings.{Settings}
-use Rattle.chart_opening.specs.Header.{settingsAt, settingsOf}
-use Rattle.calls.specs.Afresh.{aimParts, rhythm, detailFrom}
-use Rattle.calls_players.specs.Same.{count-under}
 use Rattle.calls.proofs.Refusals.{accepted-read}
-use Rattle.calls.specs.Calls.{recordIs, valuesAre, detailIs, result}
-use Rattle.readings.proofs.Outcomes.{values-refused, values-read, passed, in-table, aim-any}
+use Rattle.calls.specs.Calls.{valuesAre, result}
+use Rattle.readings.proofs.OutcomesAs.{values-refused, values-read, passed}
 use mathlib.Core.List.{[]}
 use native.Mathlib.Omega.{arith}
-use mathlib.Core.Path.{sym, ap, _∙_}
+use mathlib.Core.Path.{sym, _∙_}
 use borrow.Author.Needs.{needs}
 use Rattle.readings.proofs.read_values_as.Statement.{statement}
 use Rattle.readings.proofs.read_values_as.Tie as tie
-use Rattle.readings.proofs.read_values_as.Reads as reads
-use Rattle.readings.proofs.read_values_as.Lts as lts
-use Rattle.eval_values.proofs.row_at.Reads as row-at-reads
-use Rattle.readings.proofs.check_reading.Reads as check-reading-reads
 
--- src/lib.rt:108:11
-check-reading-requires : tie.Need-check-reading-requires
-check-reading-requires c κs = search needs
+check-reading-as-requires : tie.Need-check-reading-as-requires
+check-reading-as-requires c κs = search needs
 
--- src/lib.rt:109:26
 enum-known-r : tie.Need-enum-known-r
 enum-known-r c = search needs
 
--- src/lib.rt:110:51
 enum-told : tie.Need-enum-told
 enum-told c = search needs
 
--- src/lib.rt:110:51
 row-at-requires : tie.Need-row-at-requires
-row-at-requires c κs = let a = c .before .before .before .before .before .before .args in let p = passed (a .settings .now) (a .chart .now) (a .values .now) (a .place) _ (sym (c .before .before .check-reading .ensures) ∙ c .enum-told .given .1) in let d = accepted-read _ _ _ (p .then) in omega (arith, d .room, d .below)
+row-at-requires c κs = let a = c .before .before .before .before .before .before .args in let p = passed (a .settings .now) (a .chart .now) (a .values .now) (a .place) _ (sym (c .before .before .check-reading-as .ensures) ∙ c .enum-told .given .1) in let d = accepted-read _ _ _ (p .then) in omega (arith, d .room, d .below)
 
--- src/lib.rt:103:1
 returns : tie.Need-returns
-returns c = let a = c .before .before .before .before .before .before .before .args in (sym (values-refused (a .settings .now) (a .chart .now) (a .values .now) (a .place) _ (sym (c .before .before .before .check-reading .ensures) ∙ c .before .r .given .1)), search needs)
+returns c = let a = c .before .before .before .before .before .before .before .args in (sym (values-refused (a .settings .now) (a .chart .now) (a .values .now) (a .place) _ (sym (c .before .before .before .check-reading-as .ensures) ∙ c .before .r .given .1)), search needs)
 
--- src/lib.rt:103:1
 returns-2 : tie.Need-returns-2
-returns-2 c = let a = c .before .before .before .before .before .before .before .args in ((λ i. result (valuesAre (c .row-at .ensures i)) (a .chart .now) [] (a .values .now)) ∙ sym (values-read (a .settings .now) (a .chart .now) (a .values .now) (a .place) (sym (c .before .before .before .check-reading .ensures) ∙ c .before .enum-told .given .1)), search needs)
+returns-2 c = let a = c .before .before .before .before .before .before .before .args in ((λ i. result (valuesAre (c .row-at .ensures i)) (a .chart .now) [] (a .values .now)) ∙ sym (values-read (a .settings .now) (a .chart .now) (a .values .now) (a .place) (sym (c .before .before .before .check-reading-as .ensures) ∙ c .before .enum-told .given .1)), search needs)
 
 pub read-values-as-spec : {M : Type 1} → statement M
 read-values-as-spec =
     tie.close
-    (tie.spec check-reading-requires enum-known-r enum-told row-at-requires returns returns-2)
+    (tie.spec check-reading-as-requires enum-known-r enum-told row-at-requires returns returns-2)

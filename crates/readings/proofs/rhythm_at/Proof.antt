@@ -2,20 +2,13 @@ use Rattle.readings.proofs.Details.{placed, rhythm-found}
 use Rattle.chart_opening.proofs.Header.{framed}
 use Rattle.readings.proofs.rhythm_at.Statement.{statement}
 use Rattle.readings.proofs.rhythm_at.Tie as tie
-use Rattle.readings.proofs.rhythm_at.Reads as reads
-use Rattle.readings.proofs.rhythm_at.Lts as lts
-use Rattle.chart_opening.proofs.layout_of.Reads as layout-of-reads
-use Rattle.eval_rhythm.proofs.evaluate_counted.Reads as evaluate-counted-reads
 
--- src/lib.rt:169:9
 layout-of-requires : tie.Need-layout-of-requires
 layout-of-requires c κs = framed _ (c .before .before .pre .frame) .long
 
--- src/lib.rt:170:5
 evaluate-counted-requires : tie.Need-evaluate-counted-requires
 evaluate-counted-requires c κs = placed _ _ _ _ (c .layout-of .ensures) (c .before .before .before .pre)
 
--- src/lib.rt:165:1
 returns : tie.Need-returns
 returns c = let a = c .before .before .before .before .args in rhythm-found (a .chart .now) (c .before .layout-of .result) (a .records .now) (a .place) (c .before .layout-of .ensures) (a .set) _ _ (c .evaluate-counted .ensures .0) (c .evaluate-counted .ensures .1)
 
