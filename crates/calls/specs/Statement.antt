@@ -88,7 +88,7 @@ edits [] xs = []
 edits (c ∷ cs) [] = []
 edits (c ∷ cs) (x ∷ xs) = withEdit (c .operation) x (edits cs xs)
 
--- chart b is chart b₀ with these edits and no other change; that its N, its offsets and its length follow is condition 1, which `Sound.opens` says it does not meet
+-- chart b is chart b₀ with these edits and no other change; that its N, its offsets and its length follow is condition 1, which `Shown.opens` says it does not meet
 pub record Kept (b₀ : List ℕ) (es : List Edit) (b : List ℕ) : Type 0 where
   -- the numbers of nested entries and points, and the offset of the objects
   pub counts : countBytes b ≡ countBytes b₀

@@ -66,6 +66,14 @@ module _ (need room : ℕ) (a : Operation) (st : State) where
   unfolding readInto
   into-long h = rw (le-ltb room need h)
 
+  pub into-room : (x : Answer) → ((r : Refusal) → refused r ≡ x → ⊥) → x ≡ readInto need room a st .answer → need ≤ room
+  unfolding readInto refuse
+  into-room x other e = go (ltb room need) refl e
+    where
+      go : (t : Bool) → ltb room need ≡ t → x ≡ cond t (refuse st (noRoom (st .chart))) (outcome a st) .answer → need ≤ room
+      go true h f = absurd (other (noRoom (st .chart)) (sym f))
+      go false h f = ltb-false room need h
+
 module _ (t : List ℕ) (need room : ℕ) (a : Operation) (st : State) where
   pub into-short-as : room < need → (r : Refusal) → Refused r ≡ secondVerdict t (st .chart) (Refused Table) → readIntoAs t need room a st ≡ refuse st r
   unfolding readIntoAs ifAccepted

@@ -23,7 +23,7 @@ ghost use Rattle.readings.specs.Answers.{recordAnswer, valuesAnswer, aimFinding
 ghost use Rattle.figures.specs.Answers.{totalsAnswer, countsAnswer, ratingsAnswer, scratchOf};
 ghost use Rattle.station.specs.Codes.{codeOf, verdictCode, answerCode, ruleNumber, findingRow, numbersOf, totalsRow, countsRow, ratingsRow};
 ghost use Rattle.station.specs.Codes.{aimWidth, rhythmWidth, countsWidth, ratingsWidth, askedOf, ratingsCramped};
-ghost use Rattle.station.specs.Codes.{readInto, figureInto, scratchInto, readIntoAs, figureIntoAs, scratchIntoAs};
+ghost use Rattle.station.specs.Codes.{noRoom, readInto, figureInto, scratchInto, readIntoAs, figureIntoAs, scratchIntoAs};
 ghost use Rattle.station.specs.Codes.{numbersWidth, rankVerdictInto, rankInto};
 ghost use Rattle.pack.specs.Pack.{buffers, tables};
 use chart_opening::Refusal;
@@ -264,8 +264,18 @@ pub extern "C" fn difficulty_remove_both(
     }
 }
 
+// Why a reading is refused whose answer has no room.
+fn no_room(chart: &[u8]) -> Refusal
+    ensures { λ r. ⌜ r ≡ noRoom (now (chart .entry)) ⌝ }
+{
+    if chart_opening::header_ok(chart) {
+        return Refusal::Table;
+    }
+    Refusal::Header
+}
+
 // Why a reading of the second player is refused whose answer has no room: 7 right after 1 and settings of another length.
-fn no_room(chart: &[u8], settings: &[u8]) -> Refusal
+fn no_room_as(chart: &[u8], settings: &[u8]) -> Refusal
     ensures { λ r. ⌜ Refused r ≡ secondVerdict (now (settings .entry)) (now (chart .entry)) (Refused Table) ⌝ }
 {
     if !chart_players::header_ok_as(chart, settings) {
@@ -278,7 +288,7 @@ fn no_room(chart: &[u8], settings: &[u8]) -> Refusal
 }
 
 // The record of a place, for the second player and an answer with as much room.
-fn record_into(
+fn record_into_as(
     chart: &[u8],
     settings: &[u8],
     records: &[f64],
@@ -289,7 +299,7 @@ fn record_into(
         ≡ readIntoAs (now (settings .entry)) 16 room (ops.readRecord place) (state (now (chart .entry)) (now (records .entry)) []) ⌝ }
 {
     if room < calls::RECORD_WIDTH {
-        return RecordAnswer::Refused(no_room(chart, settings));
+        return RecordAnswer::Refused(no_room_as(chart, settings));
     }
     readings::read_record_as(chart, settings, records, place)
 }
@@ -313,13 +323,24 @@ pub extern "C" fn difficulty_read_record_as(
     ensures leaves { λ _. ⌜ state (now (chart .exit)) (now (records .exit)) [] ≡ state (now (chart .entry)) (now (records .entry)) [] ⌝ }
     ensures settings { λ _. ⌜ now (settings .exit) ≡ now (settings .entry) ⌝ }
 {
-    match record_into(chart, settings, records, place, out.len()) {
+    match record_into_as(chart, settings, records, place, out.len()) {
         RecordAnswer::Refused(r) => code(r),
         RecordAnswer::Record(x) => {
             osu_records::put_record(out, 0, x);
             0
         }
     }
+}
+
+// The record of a place, for an answer with as much room.
+fn record_into(chart: &[u8], records: &[f64], place: usize, room: usize) -> RecordAnswer
+    ensures { λ r. ⌜ result (recordAnswer r) (now (chart .exit)) (now (records .exit)) []
+        ≡ readInto 16 room (ops.readRecord place) (state (now (chart .entry)) (now (records .entry)) []) ⌝ }
+{
+    if room < calls::RECORD_WIDTH {
+        return RecordAnswer::Refused(no_room(chart));
+    }
+    readings::read_record(chart, records, place)
 }
 
 // Writes the record of a place, as the table has it: sixteen numbers, in the table's order.
@@ -339,14 +360,17 @@ pub extern "C" fn difficulty_read_record(
         (now (out .entry)) ⌝ }
     ensures leaves { λ _. ⌜ state (now (chart .exit)) (now (records .exit)) [] ≡ state (now (chart .entry)) (now (records .entry)) [] ⌝ }
 {
-    if chart.len() < chart_fields::HEADER_SIZE {
-        return code(Refusal::Header);
+    match record_into(chart, records, place, out.len()) {
+        RecordAnswer::Refused(r) => code(r),
+        RecordAnswer::Record(x) => {
+            osu_records::put_record(out, 0, x);
+            0
+        }
     }
-    difficulty_read_record_as(chart, &chart[32..80], records, place, out)
 }
 
 // The values of a place, for the second player and an answer with as much room.
-fn values_into(
+fn values_into_as(
     chart: &[u8],
     settings: &[u8],
     values: &[f64],
@@ -357,7 +381,7 @@ fn values_into(
         ≡ readIntoAs (now (settings .entry)) 5 room (ops.readValues place) (state (now (chart .entry)) [] (now (values .entry))) ⌝ }
 {
     if room < calls::VALUE_WIDTH {
-        return ValuesAnswer::Refused(no_room(chart, settings));
+        return ValuesAnswer::Refused(no_room_as(chart, settings));
     }
     readings::read_values_as(chart, settings, values, place)
 }
@@ -381,13 +405,24 @@ pub extern "C" fn difficulty_read_values_as(
     ensures leaves { λ _. ⌜ state (now (chart .exit)) [] (now (values .exit)) ≡ state (now (chart .entry)) [] (now (values .entry)) ⌝ }
     ensures settings { λ _. ⌜ now (settings .exit) ≡ now (settings .entry) ⌝ }
 {
-    match values_into(chart, settings, values, place, out.len()) {
+    match values_into_as(chart, settings, values, place, out.len()) {
         ValuesAnswer::Refused(r) => code(r),
         ValuesAnswer::Values(v) => {
             eval_values::put_values(out, 0, v);
             0
         }
     }
+}
+
+// The values of a place, for an answer with as much room.
+fn values_into(chart: &[u8], values: &[f64], place: usize, room: usize) -> ValuesAnswer
+    ensures { λ r. ⌜ result (valuesAnswer r) (now (chart .exit)) [] (now (values .exit))
+        ≡ readInto 5 room (ops.readValues place) (state (now (chart .entry)) [] (now (values .entry))) ⌝ }
+{
+    if room < calls::VALUE_WIDTH {
+        return ValuesAnswer::Refused(no_room(chart));
+    }
+    readings::read_values(chart, values, place)
 }
 
 // Writes the five values of a place, as the table has them.
@@ -406,19 +441,28 @@ pub extern "C" fn difficulty_read_values(
         (now (out .entry)) ⌝ }
     ensures leaves { λ _. ⌜ state (now (chart .exit)) [] (now (values .exit)) ≡ state (now (chart .entry)) [] (now (values .entry)) ⌝ }
 {
-    if chart.len() < chart_fields::HEADER_SIZE {
-        return code(Refusal::Header);
+    match values_into(chart, values, place, out.len()) {
+        ValuesAnswer::Refused(r) => code(r),
+        ValuesAnswer::Values(v) => {
+            eval_values::put_values(out, 0, v);
+            0
+        }
     }
-    difficulty_read_values_as(chart, &chart[32..80], values, place, out)
 }
 
 // Aim in its parts at a place, for the second player and an answer with as much room.
-fn aim_into(chart: &[u8], settings: &[u8], records: &[f64], place: usize, room: usize) -> AimAnswer
+fn aim_into_as(
+    chart: &[u8],
+    settings: &[u8],
+    records: &[f64],
+    place: usize,
+    room: usize,
+) -> AimAnswer
     ensures { λ r. ⌜ result (aimAnswer r) (now (chart .exit)) (now (records .exit)) []
         ≡ readIntoAs (now (settings .entry)) aimWidth room (ops.readDetail kinds.aimParts place) (state (now (chart .entry)) (now (records .entry)) []) ⌝ }
 {
     if room < AIM_WIDTH {
-        return AimAnswer::Refused(no_room(chart, settings));
+        return AimAnswer::Refused(no_room_as(chart, settings));
     }
     readings::read_aim_parts_as(chart, settings, records, place)
 }
@@ -483,7 +527,7 @@ pub extern "C" fn difficulty_read_aim_parts_as(
     ensures leaves { λ _. ⌜ state (now (chart .exit)) (now (records .exit)) [] ≡ state (now (chart .entry)) (now (records .entry)) [] ⌝ }
     ensures settings { λ _. ⌜ now (settings .exit) ≡ now (settings .entry) ⌝ }
 {
-    match aim_into(chart, settings, records, place, out.len()) {
+    match aim_into_as(chart, settings, records, place, out.len()) {
         AimAnswer::Refused(r) => code(r),
         AimAnswer::Aim(d) => {
             put_aim(out, d);
@@ -513,7 +557,7 @@ pub extern "C" fn difficulty_read_aim_parts(
 }
 
 // The rhythm value of a place with its comparisons, for the second player and an answer with as much room.
-fn rhythm_into(
+fn rhythm_into_as(
     chart: &[u8],
     settings: &[u8],
     records: &[f64],
@@ -524,7 +568,7 @@ fn rhythm_into(
         ≡ readIntoAs (now (settings .entry)) rhythmWidth room (ops.readDetail kinds.rhythm place) (state (now (chart .entry)) (now (records .entry)) []) ⌝ }
 {
     if room < RHYTHM_WIDTH {
-        return RhythmAnswer::Refused(no_room(chart, settings));
+        return RhythmAnswer::Refused(no_room_as(chart, settings));
     }
     readings::read_rhythm_as(chart, settings, records, place)
 }
@@ -546,7 +590,7 @@ pub extern "C" fn difficulty_read_rhythm_as(
     ensures leaves { λ _. ⌜ state (now (chart .exit)) (now (records .exit)) [] ≡ state (now (chart .entry)) (now (records .entry)) [] ⌝ }
     ensures settings { λ _. ⌜ now (settings .exit) ≡ now (settings .entry) ⌝ }
 {
-    match rhythm_into(chart, settings, records, place, out.len()) {
+    match rhythm_into_as(chart, settings, records, place, out.len()) {
         RhythmAnswer::Refused(r) => code(r),
         RhythmAnswer::Rhythm(c) => {
             out[0] = c.value;

@@ -1,59 +1,59 @@
--- `station::difficulty_read_record` meets its contract: the header has the settings. Assumes nothing.
-use mathlib.Core.Path.{refl, sym, ap, _∙_}
-use mathlib.Core.List.{[]}
+-- `station::difficulty_read_record` meets its contract. Assumes nothing.
+use mathlib.Core.Path.{sym, ap, _∙_}
+use native.Mathlib.Omega.{arith}
 use lib.ListN.{length}
-use Rattle.num_tables.specs.Parts.{part, put}
-use Rattle.calls.specs.Calls.{Answer, Outcome, refuse, state}
-use Rattle.calls.specs.Conditions.{readRecord}
-use Rattle.calls_players.specs.Statement.{Reads}
+use Rattle.num_tables.specs.Parts.{put}
+use mathlib.Core.Path.{refl}
+use Rattle.calls.specs.Calls.{Answer, Outcome}
+use Rattle.readings.specs.Answers.{recordAnswer}
 use Rattle.station.specs.Codes.{answerCode, numbersOf}
-use Rattle.station.proofs.Rooms.{put-none, short-into, own-into}
+use Rattle.station.proofs.Rooms.{put-none, into-room, no-record}
 use borrow.Author.Needs.{needs}
 use Rattle.station.proofs.difficulty_read_record.Statement.{statement}
 use Rattle.station.proofs.difficulty_read_record.Tie as tie
 
+record-into-requires : tie.Need-record-into-requires
+record-into-requires c κs = search needs
+
+enum-known-r : tie.Need-enum-known-r
+enum-known-r c = search needs
+
 code-requires : tie.Need-code-requires
 code-requires c κs = search needs
 
+enum-known-x : tie.Need-enum-known-x
+enum-known-x c = search needs
+
+put-record-requires : tie.Need-put-record-requires
+put-record-requires c κs =
+    let a = c .before .before .before .before .before .before .before .before .args in
+    let p = sym (ap recordAnswer (c .before .before .x .given .1)) ∙ ap (λ (x : Outcome). x .answer) (c .before .before .before .before .record-into .ensures) in
+    (omega arith, omega (arith, into-room 16 (length (a .out .now)) _ _ _ (no-record _) p))
+
 returns : tie.Need-returns
-unfolding refuse
 returns c =
-    let a = c .before .before .before .before .before .args in
-    let p = sym (ap (λ (x : Outcome). x .answer) (short-into 16 (length (a .out .now)) (readRecord (a .place)) (state (a .chart .now) (a .records .now) []) (c .before .if1 .taken))) in
+    let a = c .before .before .before .before .before .before .before .before .args in
+    let p = sym (ap recordAnswer (c .before .before .r .given .1)) ∙ ap (λ (x : Outcome). x .answer) (c .before .before .before .before .record-into .ensures) in
     (c .code .ensures ∙ ap answerCode p, (put-none (a .out .now) ∙ ap (λ (x : Answer). put 0 (numbersOf x) (a .out .now)) p, refl))
-
-sub-difficulty-read-record-as : tie.Need-sub-difficulty-read-record-as
-sub-difficulty-read-record-as c = search needs
-
-part-difficulty-read-record-as-start : tie.Need-part-difficulty-read-record-as-start
-part-difficulty-read-record-as-start c = search needs
-
-part-difficulty-read-record-as-end : tie.Need-part-difficulty-read-record-as-end
-part-difficulty-read-record-as-end c = search needs
-
-difficulty-read-record-as-requires : tie.Need-difficulty-read-record-as-requires
-difficulty-read-record-as-requires c κs = search needs
 
 same-length : tie.Need-same-length
 same-length c = search needs
 
 returns-2 : tie.Need-returns-2
-unfolding part Reads
 returns-2 c =
-    let a = c .before .before .before .before .before .before .before .before .before .args in
-    let p = ap (λ (x : Outcome). x .answer) (own-into 16 (length (a .out .now)) (readRecord (a .place)) (state (a .chart .now) (a .records .now) []) (c .before .before .before .before .before .if1 .left) tt) in
-    let e = c .before .before .difficulty-read-record-as .ensures in
-    (e .0 ∙ ap answerCode p, (e .1 .0 ∙ ap (λ (x : Answer). put 0 (numbersOf x) (a .out .now)) p, refl))
+    let a = c .before .before .before .before .before .before .before .before .before .before .before .args in
+    let p = sym (ap recordAnswer (c .before .before .before .before .before .x .given .1)) ∙ ap (λ (x : Outcome). x .answer) (c .before .before .before .before .before .before .before .record-into .ensures) in
+    (ap answerCode p, (c .before .before .put-record .ensures ∙ ap (λ (x : Answer). put 0 (numbersOf x) (a .out .now)) p, refl))
 
 pub difficulty-read-record-spec : {M : Type 1} → statement M
 difficulty-read-record-spec =
     tie.close
     (tie.spec
+    record-into-requires
+    enum-known-r
     code-requires
+    enum-known-x
+    put-record-requires
     returns
-    sub-difficulty-read-record-as
-    part-difficulty-read-record-as-start
-    part-difficulty-read-record-as-end
-    difficulty-read-record-as-requires
     same-length
     returns-2)

@@ -12,8 +12,8 @@ use borrow.Author.Needs.{needs}
 use Rattle.station.proofs.difficulty_read_record_as.Statement.{statement}
 use Rattle.station.proofs.difficulty_read_record_as.Tie as tie
 
-record-into-requires : tie.Need-record-into-requires
-record-into-requires c κs = search needs
+record-into-as-requires : tie.Need-record-into-as-requires
+record-into-as-requires c κs = search needs
 
 enum-known-r : tie.Need-enum-known-r
 enum-known-r c = search needs
@@ -27,13 +27,13 @@ enum-known-x c = search needs
 put-record-requires : tie.Need-put-record-requires
 put-record-requires c κs =
     let a = c .before .before .before .before .before .before .before .before .before .args in
-    let p = sym (ap recordAnswer (c .before .before .x .given .1)) ∙ ap (λ (x : Outcome). x .answer) (c .before .before .before .before .record-into .ensures) in
+    let p = sym (ap recordAnswer (c .before .before .x .given .1)) ∙ ap (λ (x : Outcome). x .answer) (c .before .before .before .before .record-into-as .ensures) in
     (omega arith, omega (arith, into-room-as _ 16 (length (a .out .now)) _ _ _ (no-record _) p))
 
 returns : tie.Need-returns
 returns c =
     let a = c .before .before .before .before .before .before .before .before .before .args in
-    let p = sym (ap recordAnswer (c .before .before .r .given .1)) ∙ ap (λ (x : Outcome). x .answer) (c .before .before .before .before .record-into .ensures) in
+    let p = sym (ap recordAnswer (c .before .before .r .given .1)) ∙ ap (λ (x : Outcome). x .answer) (c .before .before .before .before .record-into-as .ensures) in
     (c .code .ensures ∙ ap answerCode p, (put-none (a .out .now) ∙ ap (λ (x : Answer). put 0 (numbersOf x) (a .out .now)) p, (refl, refl)))
 
 same-length : tie.Need-same-length
@@ -42,14 +42,14 @@ same-length c = search needs
 returns-2 : tie.Need-returns-2
 returns-2 c =
     let a = c .before .before .before .before .before .before .before .before .before .before .before .before .args in
-    let p = sym (ap recordAnswer (c .before .before .before .before .before .x .given .1)) ∙ ap (λ (x : Outcome). x .answer) (c .before .before .before .before .before .before .before .record-into .ensures) in
+    let p = sym (ap recordAnswer (c .before .before .before .before .before .x .given .1)) ∙ ap (λ (x : Outcome). x .answer) (c .before .before .before .before .before .before .before .record-into-as .ensures) in
     (ap answerCode p, (c .before .before .put-record .ensures ∙ ap (λ (x : Answer). put 0 (numbersOf x) (a .out .now)) p, (refl, refl)))
 
 pub difficulty-read-record-as-spec : {M : Type 1} → statement M
 difficulty-read-record-as-spec =
     tie.close
     (tie.spec
-    record-into-requires
+    record-into-as-requires
     enum-known-r
     code-requires
     enum-known-x

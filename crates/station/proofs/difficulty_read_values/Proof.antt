@@ -1,59 +1,59 @@
--- `station::difficulty_read_values` meets its contract: the header has the settings. Assumes nothing.
-use mathlib.Core.Path.{refl, sym, ap, _∙_}
-use mathlib.Core.List.{[]}
+-- `station::difficulty_read_values` meets its contract. Assumes nothing.
+use mathlib.Core.Path.{sym, ap, _∙_}
+use native.Mathlib.Omega.{arith}
 use lib.ListN.{length}
-use Rattle.num_tables.specs.Parts.{part, put}
-use Rattle.calls.specs.Calls.{Answer, Outcome, refuse, state}
-use Rattle.calls.specs.Conditions.{readValues}
-use Rattle.calls_players.specs.Statement.{Reads}
+use Rattle.num_tables.specs.Parts.{put}
+use mathlib.Core.Path.{refl}
+use Rattle.calls.specs.Calls.{Answer, Outcome}
+use Rattle.readings.specs.Answers.{valuesAnswer}
 use Rattle.station.specs.Codes.{answerCode, numbersOf}
-use Rattle.station.proofs.Rooms.{put-none, short-into, own-into}
+use Rattle.station.proofs.Rooms.{put-none, into-room, no-values}
 use borrow.Author.Needs.{needs}
 use Rattle.station.proofs.difficulty_read_values.Statement.{statement}
 use Rattle.station.proofs.difficulty_read_values.Tie as tie
 
+values-into-requires : tie.Need-values-into-requires
+values-into-requires c κs = search needs
+
+enum-known-r : tie.Need-enum-known-r
+enum-known-r c = search needs
+
 code-requires : tie.Need-code-requires
 code-requires c κs = search needs
 
+enum-known-v : tie.Need-enum-known-v
+enum-known-v c = search needs
+
+put-values-requires : tie.Need-put-values-requires
+put-values-requires c κs =
+    let a = c .before .before .before .before .before .before .before .before .args in
+    let p = sym (ap valuesAnswer (c .before .before .v .given .1)) ∙ ap (λ (x : Outcome). x .answer) (c .before .before .before .before .values-into .ensures) in
+    (omega arith, omega (arith, into-room 5 (length (a .out .now)) _ _ _ (no-values _) p))
+
 returns : tie.Need-returns
-unfolding refuse
 returns c =
-    let a = c .before .before .before .before .before .args in
-    let p = sym (ap (λ (x : Outcome). x .answer) (short-into 5 (length (a .out .now)) (readValues (a .place)) (state (a .chart .now) [] (a .values .now)) (c .before .if1 .taken))) in
+    let a = c .before .before .before .before .before .before .before .before .args in
+    let p = sym (ap valuesAnswer (c .before .before .r .given .1)) ∙ ap (λ (x : Outcome). x .answer) (c .before .before .before .before .values-into .ensures) in
     (c .code .ensures ∙ ap answerCode p, (put-none (a .out .now) ∙ ap (λ (x : Answer). put 0 (numbersOf x) (a .out .now)) p, refl))
-
-sub-difficulty-read-values-as : tie.Need-sub-difficulty-read-values-as
-sub-difficulty-read-values-as c = search needs
-
-part-difficulty-read-values-as-start : tie.Need-part-difficulty-read-values-as-start
-part-difficulty-read-values-as-start c = search needs
-
-part-difficulty-read-values-as-end : tie.Need-part-difficulty-read-values-as-end
-part-difficulty-read-values-as-end c = search needs
-
-difficulty-read-values-as-requires : tie.Need-difficulty-read-values-as-requires
-difficulty-read-values-as-requires c κs = search needs
 
 same-length : tie.Need-same-length
 same-length c = search needs
 
 returns-2 : tie.Need-returns-2
-unfolding part Reads
 returns-2 c =
-    let a = c .before .before .before .before .before .before .before .before .before .args in
-    let p = ap (λ (x : Outcome). x .answer) (own-into 5 (length (a .out .now)) (readValues (a .place)) (state (a .chart .now) [] (a .values .now)) (c .before .before .before .before .before .if1 .left) tt) in
-    let e = c .before .before .difficulty-read-values-as .ensures in
-    (e .0 ∙ ap answerCode p, (e .1 .0 ∙ ap (λ (x : Answer). put 0 (numbersOf x) (a .out .now)) p, refl))
+    let a = c .before .before .before .before .before .before .before .before .before .before .before .args in
+    let p = sym (ap valuesAnswer (c .before .before .before .before .before .v .given .1)) ∙ ap (λ (x : Outcome). x .answer) (c .before .before .before .before .before .before .before .values-into .ensures) in
+    (ap answerCode p, (c .before .before .put-values .ensures ∙ ap (λ (x : Answer). put 0 (numbersOf x) (a .out .now)) p, refl))
 
 pub difficulty-read-values-spec : {M : Type 1} → statement M
 difficulty-read-values-spec =
     tie.close
     (tie.spec
+    values-into-requires
+    enum-known-r
     code-requires
+    enum-known-v
+    put-values-requires
     returns
-    sub-difficulty-read-values-as
-    part-difficulty-read-values-as-start
-    part-difficulty-read-values-as-end
-    difficulty-read-values-as-requires
     same-length
     returns-2)

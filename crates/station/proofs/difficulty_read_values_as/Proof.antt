@@ -12,8 +12,8 @@ use borrow.Author.Needs.{needs}
 use Rattle.station.proofs.difficulty_read_values_as.Statement.{statement}
 use Rattle.station.proofs.difficulty_read_values_as.Tie as tie
 
-values-into-requires : tie.Need-values-into-requires
-values-into-requires c κs = search needs
+values-into-as-requires : tie.Need-values-into-as-requires
+values-into-as-requires c κs = search needs
 
 enum-known-r : tie.Need-enum-known-r
 enum-known-r c = search needs
@@ -27,13 +27,13 @@ enum-known-v c = search needs
 put-values-requires : tie.Need-put-values-requires
 put-values-requires c κs =
     let a = c .before .before .before .before .before .before .before .before .before .args in
-    let p = sym (ap valuesAnswer (c .before .before .v .given .1)) ∙ ap (λ (x : Outcome). x .answer) (c .before .before .before .before .values-into .ensures) in
+    let p = sym (ap valuesAnswer (c .before .before .v .given .1)) ∙ ap (λ (x : Outcome). x .answer) (c .before .before .before .before .values-into-as .ensures) in
     (omega arith, omega (arith, into-room-as _ 5 (length (a .out .now)) _ _ _ (no-values _) p))
 
 returns : tie.Need-returns
 returns c =
     let a = c .before .before .before .before .before .before .before .before .before .args in
-    let p = sym (ap valuesAnswer (c .before .before .r .given .1)) ∙ ap (λ (x : Outcome). x .answer) (c .before .before .before .before .values-into .ensures) in
+    let p = sym (ap valuesAnswer (c .before .before .r .given .1)) ∙ ap (λ (x : Outcome). x .answer) (c .before .before .before .before .values-into-as .ensures) in
     (c .code .ensures ∙ ap answerCode p, (put-none (a .out .now) ∙ ap (λ (x : Answer). put 0 (numbersOf x) (a .out .now)) p, (refl, refl)))
 
 same-length : tie.Need-same-length
@@ -42,14 +42,14 @@ same-length c = search needs
 returns-2 : tie.Need-returns-2
 returns-2 c =
     let a = c .before .before .before .before .before .before .before .before .before .before .before .before .args in
-    let p = sym (ap valuesAnswer (c .before .before .before .before .before .v .given .1)) ∙ ap (λ (x : Outcome). x .answer) (c .before .before .before .before .before .before .before .values-into .ensures) in
+    let p = sym (ap valuesAnswer (c .before .before .before .before .before .v .given .1)) ∙ ap (λ (x : Outcome). x .answer) (c .before .before .before .before .before .before .before .values-into-as .ensures) in
     (ap answerCode p, (c .before .before .put-values .ensures ∙ ap (λ (x : Answer). put 0 (numbersOf x) (a .out .now)) p, (refl, refl)))
 
 pub difficulty-read-values-as-spec : {M : Type 1} → statement M
 difficulty-read-values-as-spec =
     tie.close
     (tie.spec
-    values-into-requires
+    values-into-as-requires
     enum-known-r
     code-requires
     enum-known-v

@@ -2,7 +2,7 @@
 use mathlib.Core.Path.{sym, _∙_}
 use mathlib.Core.List.{[]}
 use Rattle.calls.specs.Calls.{refused, result, refuse}
-use Rattle.station.proofs.Rooms.{into-short-as, into-long-as}
+use Rattle.station.proofs.Rooms.{into-short, into-long}
 use borrow.Author.Needs.{needs}
 use Rattle.station.proofs.values_into.Statement.{statement}
 use Rattle.station.proofs.values_into.Tie as tie
@@ -12,13 +12,13 @@ no-room-requires c κs = search needs
 
 returns : tie.Need-returns
 unfolding refuse
-returns c = sym (into-short-as _ _ _ _ _ (c .before .if1 .taken) _ (c .no-room .ensures))
+returns c = (λ i. result (refused (c .no-room .ensures i)) (c .before .before .before .before .args .chart .now) [] (c .before .before .before .before .args .values .now)) ∙ sym (into-short _ _ _ _ (c .before .if1 .taken))
 
-read-values-as-requires : tie.Need-read-values-as-requires
-read-values-as-requires c κs = search needs
+read-values-requires : tie.Need-read-values-requires
+read-values-requires c κs = search needs
 
 returns-2 : tie.Need-returns-2
-returns-2 c = c .read-values-as .ensures .0 ∙ sym (into-long-as _ _ _ _ _ (c .before .if1 .left))
+returns-2 c = c .read-values .ensures ∙ sym (into-long _ _ _ _ (c .before .if1 .left))
 
 pub values-into-spec : {M : Type 1} → statement M
-values-into-spec = tie.close (tie.spec no-room-requires returns read-values-as-requires returns-2)
+values-into-spec = tie.close (tie.spec no-room-requires returns read-values-requires returns-2)
