@@ -197,7 +197,7 @@ fn run_within(first: usize, count: usize, all: usize) -> bool
 }
 
 // Whether a slider's entries lie in their tables and are right; they are read only where they lie there.
-fn runs_ok(chart: &[u8], lay: Layout, f: Fields) -> bool
+pub fn runs_ok(chart: &[u8], lay: Layout, f: Fields) -> bool
     requires { ⌜ Holds (now chart) lay ⌝ }
     ensures { λ r. ⌜ r ≡ runsOk (now (chart .entry)) lay f ⌝ }
 {

@@ -17,21 +17,21 @@ record Neither (x y z : Bool) : Type 0 where
   pub second : y ≡ false
   pub third : z ≡ false
 
-neither : (x y z : Bool) → (x || y || z) ≡ false → Neither x y z
+neither : (x y z : Bool) → ((x || y) || z) ≡ false → Neither x y z
 neither true y z e = absurd (true≢false e)
 neither false true z e = absurd (true≢false e)
 neither false false z e = record { first = refl; second = refl; third = e }
 
 module _ (s : List ℕ) (lay : Layout) (h : lay .n ≤ firstBelow (atFault s lay) (lay .n)) where
-  at : (j : ℕ) → j < lay .n → Neither (badFields s lay j) (badEntries s lay j) (falls s lay j)
+  at : (j : ℕ) → j < lay .n → Neither (badFields s lay j) (falls s lay j) (badEntries s lay j)
   unfolding atFault
-  at j l = neither (badFields s lay j) (badEntries s lay j) (falls s lay j) (clean (atFault s lay) (lay .n) j (omega arith))
+  at j l = neither (badFields s lay j) (falls s lay j) (badEntries s lay j) (clean (atFault s lay) (lay .n) j (omega arith))
 
   pub no-bad-fields : firstBelow (badFields s lay) (lay .n) ≡ lay .n
   no-bad-fields = first-none (badFields s lay) (lay .n) (λ j l. at j l .first)
 
   pub no-bad-entries : firstBelow (badEntries s lay) (lay .n) ≡ lay .n
-  no-bad-entries = first-none (badEntries s lay) (lay .n) (λ j l. at j l .second)
+  no-bad-entries = first-none (badEntries s lay) (lay .n) (λ j l. at j l .third)
 
   pub no-falls : firstBelow (falls s lay) (lay .n) ≡ lay .n
-  no-falls = first-none (falls s lay) (lay .n) (λ j l. at j l .third)
+  no-falls = first-none (falls s lay) (lay .n) (λ j l. at j l .second)

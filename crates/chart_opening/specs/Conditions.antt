@@ -67,7 +67,7 @@ ifAccepted (Refused r) x f = f r
 
 -- an object that meets condition 3, 4 or 5
 unfoldable pub atFault : List ℕ → Layout → ℕ → Bool
-atFault s lay i = badFields s lay i || badEntries s lay i || falls s lay i
+atFault s lay i = (badFields s lay i || falls s lay i) || badEntries s lay i
 
 -- conditions 3 to 6; "Each is tried over the whole chart before the next"
 unfoldable pub bodyConditions : List ℕ → Layout → Float → List Verdict

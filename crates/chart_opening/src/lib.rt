@@ -219,9 +219,13 @@ fn at_fault(chart: &[u8], lay: Layout, i: usize) -> bool
     ensures { λ r. ⌜ r ≡ atFault (now (chart .entry)) lay i ⌝ }
 {
     let f = chart_fields::fields_of(chart, lay, i);
-    !chart_fields::fields_ok(f)
-        | chart_entries::wrong_entries(chart, lay, f)
-        | chart_fields::falls_at(chart, lay, i)
+    if !chart_fields::fields_ok(f) | chart_fields::falls_at(chart, lay, i) {
+        return true;
+    }
+    if f.kind != chart_fields::SLIDER {
+        return false;
+    }
+    !chart_entries::runs_ok(chart, lay, f)
 }
 
 // The lowest place that breaks condition 3, 4 or 5, or n.

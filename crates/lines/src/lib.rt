@@ -159,6 +159,7 @@ fn rule_digit(rule: AimRule) -> u8
     }
 }
 
+// A blank and the rule's number.
 fn put_rule(out: &mut [u8], at: usize, rule: AimRule) -> usize
     ensures { λ r. ⌜ Puts (ruleText rule) (now (out .entry)) at (now (out .exit)) r ⌝ }
 {
