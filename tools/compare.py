@@ -1,7 +1,7 @@
 #!/usr/bin/env python3
 """Holds a program against the oracle, on charts and scripts of calls that are made anew from a seed.
 
-    compare.py lists|parts|rhythms TOOLS BUILD PROGRAM [--seed S] [--count N]
+    compare.py lists|parts|rhythms TOOLS BUILD PROGRAM [--seed S] [--count N] [--faults]
     compare.py scripts|players TOOLS BUILD PROGRAM [--seed S] [--count N] [--calls C]
     compare.py MODE TOOLS BUILD --save DIR ...      no program: writes DIR/stdin and DIR/stdout
 
@@ -9,6 +9,7 @@ TOOLS is the folder of the oracle's scripts (mkcharts.py, mkscripts.py), BUILD t
 
 lists: PROGRAM reads from standard input for each chart its length (u32, little-endian) and its bytes, and prints the lister's lines for each, one
 after another. The charts are of all styles in turn, to 32,768 bytes; every eighth is damaged, though some of these open. Zeros of either sign are equal.
+With --faults all have up to four faults of conditions 3 to 5, of which the rules' order names one.
 With an order 4 among ORDERS two of three charts have stated lengths, of lists and of scripts.
 
 parts, rhythms: PROGRAM is `test_aim_parts` or `test_rhythm`, or reads and writes as it does: on the same charts, aim with its parts or rhythm values with
@@ -72,6 +73,27 @@ def damage(rng, b):
     return bytes(b)
 
 
+def faulty(rng, b):
+    """A chart with up to four faults of conditions 3, 4 and 5, at any of its objects, nested entries and points."""
+    b, (n, nested, points), size = bytearray(b), struct.unpack_from("<3I", b), object_size(b)
+    for _ in range(rng.randrange(2, 5) if n else 0):
+        at, entries = 80 + size * rng.randrange(n), 80 + size * n
+        kind, how = struct.unpack_from("<I", b, at + 32)[0], rng.randrange(6)
+        if how == 0:
+            struct.pack_into("<f", b, at + 16, rng.choice((2e5, -2e5, float("nan"))))
+        elif how == 1:
+            struct.pack_into("<I", b, at + 32, 3)
+        elif how == 2 and kind == 0:
+            struct.pack_into("<2d", b, at, 0.0, 0.0)
+        elif how == 3 and nested:
+            struct.pack_into("<I", b, entries + 24 * rng.randrange(nested) + 16, rng.randrange(4))
+        elif how == 4 and points:
+            struct.pack_into("<d", b, entries + 24 * nested + 16 * rng.randrange(points) + 8, -1.0)
+        elif how == 5 and kind == 1:
+            struct.pack_into("<I", b, at + 40, rng.randrange(70_000))
+    return bytes(b)
+
+
 def stated_round(i, styles):
     """0 where the i-th chart has no stated lengths, 1 where it is of its style with some, 2 where it is of the style made for them."""
     import orders
@@ -97,8 +119,10 @@ def script_chart(mk, seed, i):
     return f"{n} objects {seed}.{i}" + ", stated" * bool(which), c.pack()
 
 
-def list_chart(mk, seed, i):
+def list_chart(mk, seed, i, faults=False):
     name, b = style_chart(mk, seed, i)
+    if faults:
+        return name + ", faulty", faulty(random.Random(f"faults/{seed}/{i}"), b)
     return (name + ", damaged", damage(random.Random(f"damage/{seed}/{i}"), b)) if i % 8 == 7 else (name, b)
 
 
@@ -134,7 +158,7 @@ def lists(a, oracle):
     """Batches of charts: names, the program's input, and the answers that it must give."""
     import mkcharts as mk
     for first in range(0, a.count, BATCH):
-        made = [list_chart(mk, a.seed, i) for i in range(first, min(first + BATCH, a.count))]
+        made = [list_chart(mk, a.seed, i, a.faults) for i in range(first, min(first + BATCH, a.count))]
         charts = [b for _, b in made]
         yield [name for name, _ in made], b"".join(map(packed_chart, charts)), oracle.answers(ASKED[a.mode], charts)
 
@@ -253,6 +277,7 @@ def main():
     p.add_argument("--count", type=int)
     p.add_argument("--calls", type=int, default=60)
     p.add_argument("--save")
+    p.add_argument("--faults", action="store_true")
     a = p.parse_args()
     if bool(a.program) == bool(a.save):
         p.error("a program or --save")
