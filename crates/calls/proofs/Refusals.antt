@@ -2,11 +2,11 @@
 use mathlib.Core.Path.{_≡_, refl, sym, ap, _∙_}
 use mathlib.Core.Logic.{_↔_}
 use mathlib.Core.List.{List, [], _∷_, _++_, append-assoc}
-use mathlib.Core.Bool.{Bool, true, false, _&&_, _||_}
-use Prim.Native.Nat.{ℕ, suc, _+_, _*_, _/_, _≤_, _<_, min}
+use mathlib.Core.Bool.{Bool, true, false, _&&_}
+use mathlib.Mathlib.Data.Bool.Basic.{or-eq-false-eq-eq-false-and-eq-false as neither}
+use Prim.Native.Nat.{ℕ, suc, _+_, _*_, _/_, _≤_, _<_}
 use native.Mathlib.Omega.{arith}
 use lib.Dec.{ltb}
-use lib.ListN.{length}
 use borrow.Author.Tests.{ltb-true, ltb-false, le-ltb}
 use Rattle.chart_opening.specs.Header.{layoutOf, headerOk}
 use Rattle.chart_opening.specs.Conditions.{Opens, refuseIf, firstOf, chartConditions, tooFew, openConditions, openVerdict}
@@ -21,10 +21,6 @@ use Rattle.chart_inserting.specs.Accepted.{Inserted, Removed, inserted, insert-
 use Rattle.calls.specs.Tables.{recordWidth, valueWidth, leastScratch, entriesOf}
 use Rattle.calls.specs.Afresh.{Detail, Figure, count}
 use Rattle.calls.specs.Conditions.{Lengths, replace, insert, remove, readRecord, readValues, readDetail, figure, scratchShort, rowConditions, readConditions, readVerdict, sumConditions, sumVerdict, askedConditions, figureConditions, figureVerdict, opening, refusal}
-
-or-false : (a b : Bool) → (a || b) ≡ false → (a ≡ false) × (b ≡ false)
-or-false true b e = let z : _≡_ {A = ℕ} 0 1 = cc in absurd (omega arith)
-or-false false b e = (refl, e)
 
 -- room in both tables
 pub record Roomy (r v n : ℕ) : Type 0 where
@@ -115,9 +111,9 @@ Enough l = (leastScratch ≤ l .aim) × (leastScratch ≤ l .aimNoSliders) × (l
 pub long : (l : Lengths) → scratchShort l ≡ false → Enough l
 unfolding scratchShort
 long l e =
-    let (x, t) = or-false (ltb (l .aim) leastScratch) _ e in
-    let (y, u) = or-false (ltb (l .aimNoSliders) leastScratch) _ t in
-    let (z, w) = or-false (ltb (l .speed) leastScratch) (ltb (l .flashlight) leastScratch) u in
+    let (x, t) = neither (ltb (l .aim) leastScratch) _ .0 e in
+    let (y, u) = neither (ltb (l .aimNoSliders) leastScratch) _ .0 t in
+    let (z, w) = neither (ltb (l .speed) leastScratch) (ltb (l .flashlight) leastScratch) .0 u in
     (ltb-false _ _ x, ltb-false _ _ y, ltb-false _ _ z, ltb-false _ _ w)
 
 -- sums are worked out exactly where the chart opens, the values have room and no scratch is short

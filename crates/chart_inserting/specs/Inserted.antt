@@ -1,8 +1,9 @@
 -- The buffer with an object put in: the object is there (`place-put`, `here`), the chart has it more and else the same (`one-more`), its header is right
 -- again (`header`), and bytes past its length are as they were (`rest`). Assumes nothing.
 use Prim.Native.Nat.{ℕ, _+_, _-_, _≤_, _<_}
-use mathlib.Core.Path.{_≡_, refl, sym, ap, _∙_}
-use mathlib.Core.Bool.{Bool, true, false, _||_}
+use mathlib.Core.Path.{_≡_, sym, ap, _∙_}
+use mathlib.Core.Bool.{true, false}
+use mathlib.Mathlib.Data.Bool.Basic.{or-eq-false-eq-eq-false-and-eq-false as neither}
 use mathlib.Core.List.{List}
 use lib.Dec.{ltb}
 use lib.ListN.{length, drop}
@@ -27,18 +28,14 @@ use Rattle.chart_inserting.specs.OneMore.{OneMore, countBytes, settingBy
 use Rattle.chart_inserting.specs.Recounted as C
 use Rattle.chart_inserting.specs.Widened as W
 
-neither : (a b : Bool) → (a || b) ≡ false → (a ≡ false) × (b ≡ false)
-neither true b e = (e, cc)
-neither false b e = (refl, e)
-
 -- what room there is
 pub room-free : (s : List ℕ) → noRoom s ≡ false → chartLength s + layoutOf s .«object_size» ≤ length s
 unfolding noRoom
-room-free s e = ltb-false _ _ (neither _ _ e .0)
+room-free s e = ltb-false _ _ (neither (ltb (length s) (chartLength s + layoutOf s .«object_size»)) _ .0 e .0)
 
 pub room-more : (s : List ℕ) → noRoom s ≡ false → layoutOf s .n < mostObjects
 unfolding noRoom
-room-more s e = leb-false _ _ (neither (ltb (length s) (chartLength s + layoutOf s .«object_size»)) _ e .1)
+room-more s e = leb-false _ _ (neither (ltb (length s) (chartLength s + layoutOf s .«object_size»)) _ .0 e .1)
 
 module _ (s : List ℕ) (place : ℕ) (object : List ℕ)
     (h : headerOk s ≡ true) (hp : place ≤ layoutOf s .n) (room : noRoom s ≡ false) (ho : length object ≡ layoutOf s .«object_size») where

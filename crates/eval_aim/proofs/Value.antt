@@ -3,7 +3,8 @@ use Prim.Native.Nat.{ℕ, _-_, _≤_, _<_, min}
 use native.Mathlib.Omega.{arith}
 use native.Mathlib.Nat.{sub-zero}
 use mathlib.Core.Path.{_≡_, refl, sym, ap, _∙_}
-use mathlib.Core.Bool.{Bool, true, false, cond, _||_, true≢false}
+use mathlib.Core.Bool.{Bool, true, false, cond, _||_}
+use mathlib.Mathlib.Data.Bool.Basic.{or-eq-false-eq-eq-false-and-eq-false as neither}
 use mathlib.Core.List.{List}
 use lib.Dec.{ltb, leb}
 use lib.Ieee as Ieee
@@ -48,17 +49,8 @@ aim-combine v before sliders = go (ltb before 2) (v 0 .base .spinner || v 1 .bas
 pub parts-plain : (v : View) (before : ℕ) → (v 1 .base .slider || v 2 .base .slider) ≡ false → partsOf v before true ≡ partsOf v before false
 unfolding partsOf allParts bonusesOf
 parts-plain v before e =
-    let one : v 1 .base .slider ≡ false = or-left (v 1 .base .slider) (v 2 .base .slider) e in
-    let two : v 2 .base .slider ≡ false = or-right (v 1 .base .slider) (v 2 .base .slider) e in
+    let (one, two) = neither (v 1 .base .slider) (v 2 .base .slider) .0 e in
     rw (one, two)
-  where
-    or-left : (a b : Bool) → (a || b) ≡ false → a ≡ false
-    or-left true b e = e
-    or-left false b e = refl
-
-    or-right : (a b : Bool) → (a || b) ≡ false → b ≡ false
-    or-right true b e = absurd (true≢false e)
-    or-right false b e = e
 
 -- ---- the reach
 

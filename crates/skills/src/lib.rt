@@ -343,9 +343,9 @@ fn walk_three(
     let mut j = 1;
     while j < n {
         let raw = raw_start(chart, lay, j);
-        let start = raw / clock;
+        let at = raw / clock;
         let decay = strain_decay((raw - raw_last) / clock, strain_decay_base(Skill::Aim));
-        a = advance(aim, a, values, j, Skill::Aim, decay, last, start);
+        a = advance(aim, a, values, j, Skill::Aim, decay, last, at);
         b = advance(
             aim_no_sliders,
             b,
@@ -354,20 +354,11 @@ fn walk_three(
             Skill::AimNoSliders,
             decay,
             last,
-            start,
+            at,
         );
-        c = advance(
-            flashlight,
-            c,
-            values,
-            j,
-            Skill::Flashlight,
-            decay,
-            last,
-            start,
-        );
+        c = advance(flashlight, c, values, j, Skill::Flashlight, decay, last, at);
         raw_last = raw;
-        last = start;
+        last = at;
         j += 1;
     }
     Peaks {
