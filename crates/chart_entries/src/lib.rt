@@ -227,7 +227,7 @@ pub fn wrong_entries(chart: &[u8], lay: Layout, f: Fields) -> bool
 }
 
 // Condition 4 at a place.
-fn bad_entries(chart: &[u8], lay: Layout, i: usize) -> bool
+pub fn bad_entries(chart: &[u8], lay: Layout, i: usize) -> bool
     requires { ⌜ Holds (now chart) lay × (i < lay .n) ⌝ }
     ensures { λ r. ⌜ r ≡ badEntries (now (chart .entry)) lay i ⌝ }
 {

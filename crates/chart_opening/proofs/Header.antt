@@ -76,8 +76,8 @@ unfolding frameOk
 framed s e =
     let abc = both _ _ e in
     let ab = both _ _ (abc .0) in
-    let a = both _ _ (ab .0) in
-    record { long = leb-true _ _ (a .0); counts = a .1; offsets = ab .1; format = abc .1 }
+    let b = both _ _ (ab .1) in
+    record { long = leb-true _ _ (ab .0); counts = b .0; offsets = abc .1; format = b .1 }
 
 pub parts : (s : List ℕ) → headerOk s ≡ true → Parts s
 unfolding headerOk

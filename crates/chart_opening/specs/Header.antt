@@ -53,7 +53,7 @@ offsetsOk s lay =
 
 -- all of it but the flags: there are 80 bytes, counts and offsets are right, and the word at 28 is 0 or 1 (order 4)
 unfoldable pub frameOk : List ℕ → Bool
-frameOk s = leb headerSize (length s) && countsOk (layoutOf s) && offsetsOk s (layoutOf s) && leb (formatOf s) 1
+frameOk s = leb headerSize (length s) && (countsOk (layoutOf s) && leb (formatOf s) 1) && offsetsOk s (layoutOf s)
 
 -- "u32 at 76 flags: bit 0 hidden, bit 1 autopilot, others zero"
 unfoldable pub flagsOk : ℕ → Bool

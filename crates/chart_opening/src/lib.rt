@@ -139,10 +139,10 @@ pub fn frame_ok(s: &[u8]) -> bool
         return false;
     }
     let lay = layout_of(s);
-    if !counts_ok(lay) {
+    if !(counts_ok(lay) & (num_floats::u32_at(s, 28) <= 1)) {
         return false;
     }
-    offsets_ok(s, lay) & (num_floats::u32_at(s, 28) <= 1)
+    offsets_ok(s, lay)
 }
 
 // Whether the flags' reserved bits are 0.
@@ -213,32 +213,26 @@ pub fn too_long(chart: &[u8], lay: Layout, clock: f64) -> bool
     far_apart(last.start, first.start, clock)
 }
 
-// Whether the object at a place breaks condition 3, 4 or 5.
-fn at_fault(chart: &[u8], lay: Layout, i: usize) -> bool
-    requires { ⌜ Holds (now chart) lay × (i < lay .n) ⌝ }
-    ensures { λ r. ⌜ r ≡ atFault (now (chart .entry)) lay i ⌝ }
-{
-    let f = chart_fields::fields_of(chart, lay, i);
-    if !chart_fields::fields_ok(f) | chart_fields::falls_at(chart, lay, i) {
-        return true;
-    }
-    if f.kind != chart_fields::SLIDER {
-        return false;
-    }
-    !chart_entries::runs_ok(chart, lay, f)
-}
-
-// The lowest place that breaks condition 3, 4 or 5, or n.
+// The lowest place that breaks condition 3, 4 or 5, or n. A slider's fields are read again with its entries: fields that are lent on
+// would be written to memory for every object.
 fn first_fault(chart: &[u8], lay: Layout) -> usize
     requires { ⌜ Holds (now chart) lay ⌝ }
     ensures { λ r. ⌜ r ≡ firstBelow (atFault (now (chart .entry)) lay) (lay .n) ⌝ }
 {
     let n = lay.n;
+    let mut last = 0.0;
     let mut i = 0;
     while i < n {
-        if at_fault(chart, lay, i) {
+        let f = chart_fields::fields_of(chart, lay, i);
+        if !chart_fields::fields_ok(f) | (0 < i) & (f.start < last) {
             return i;
         }
+        if f.kind == chart_fields::SLIDER {
+            if chart_entries::bad_entries(chart, lay, i) {
+                return i;
+            }
+        }
+        last = f.start;
         i += 1;
     }
     i
