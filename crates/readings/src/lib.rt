@@ -3,10 +3,13 @@
 // settings, of which another length is 2 right after 1; the first player's settings are the header's.
 ghost use mathlib.Core.Path.{_≡_};
 ghost use mathlib.Core.List.{[]};
+ghost use Prim.Native.Nat.{_/_, _≤_, _<_};
 ghost use lib.ListN.{length};
+ghost use Rattle.chart_fields.specs.Limits.{mostObjects};
 ghost use Rattle.chart_opening.specs.Header.{settingsOf};
 ghost use Rattle.chart_opening.specs.Conditions.{firstOf};
 ghost use Rattle.chart_players.specs.Second.{under, secondVerdict};
+ghost use Rattle.calls.specs.Tables.{recordWidth};
 ghost use Rattle.calls.specs.Afresh as details;
 ghost use Rattle.calls.specs.Afresh.{detailFrom};
 ghost use Rattle.calls.specs.Conditions as ops;
@@ -54,11 +57,12 @@ pub enum RhythmAnswer {
     Refused(Refusal),
 }
 
-// Conditions 7 and 8 of a reading, for a chart of n objects and a table of as many entries.
-fn check_place(n: usize, entries: usize, place: usize) -> Verdict
-    ensures { λ r. ⌜ r ≡ firstOf (rowConditions n entries place) ⌝ }
+// Conditions 7 and 8 of a reading, for a chart of n objects and a table of as many numbers, so many an entry.
+fn check_place(n: usize, numbers: usize, width: usize, place: usize) -> Verdict
+    requires { ⌜ (n ≤ mostObjects) × (0 < width) × (width ≤ recordWidth) ⌝ }
+    ensures { λ r. ⌜ r ≡ firstOf (rowConditions n (numbers / width) place) ⌝ }
 {
-    if entries < n {
+    if numbers < width * n {
         return Verdict::Refused(Refusal::Table);
     }
     if (0 < place) & (place < n) {
@@ -68,19 +72,27 @@ fn check_place(n: usize, entries: usize, place: usize) -> Verdict
 }
 
 // Conditions 1, 7 and 8 of a reading.
-fn check_reading(chart: &[u8], entries: usize, place: usize) -> Verdict
-    ensures { λ r. ⌜ r ≡ readVerdict (now (chart .entry)) entries place ⌝ }
+fn check_reading(chart: &[u8], numbers: usize, width: usize, place: usize) -> Verdict
+    requires { ⌜ (0 < width) × (width ≤ recordWidth) ⌝ }
+    ensures { λ r. ⌜ r ≡ readVerdict (now (chart .entry)) (numbers / width) place ⌝ }
 {
     if !chart_opening::header_ok(chart) {
         return Verdict::Refused(Refusal::Header);
     }
-    check_place(chart_opening::layout_of(chart).n, entries, place)
+    check_place(chart_opening::layout_of(chart).n, numbers, width, place)
 }
 
 // The same for the second player, with 2 right after 1 for settings of another length.
-fn check_reading_as(chart: &[u8], settings: &[u8], entries: usize, place: usize) -> Verdict
+fn check_reading_as(
+    chart: &[u8],
+    settings: &[u8],
+    numbers: usize,
+    width: usize,
+    place: usize,
+) -> Verdict
+    requires { ⌜ (0 < width) × (width ≤ recordWidth) ⌝ }
     ensures { λ r. ⌜ r ≡ secondVerdict (now (settings .entry)) (now (chart .entry))
-        (readVerdict (under (now (settings .entry)) (now (chart .entry))) entries place) ⌝ }
+        (readVerdict (under (now (settings .entry)) (now (chart .entry))) (numbers / width) place) ⌝ }
 {
     if !chart_players::header_ok_as(chart, settings) {
         return Verdict::Refused(Refusal::Header);
@@ -88,7 +100,7 @@ fn check_reading_as(chart: &[u8], settings: &[u8], entries: usize, place: usize)
     if settings.len() != chart_players::SETTINGS_SIZE {
         return Verdict::Refused(Refusal::Setting);
     }
-    check_place(chart_opening::layout_of(chart).n, entries, place)
+    check_place(chart_opening::layout_of(chart).n, numbers, width, place)
 }
 
 // The record of a place, as the table has it.
@@ -96,7 +108,7 @@ pub fn read_record(chart: &[u8], records: &[f64], place: usize) -> RecordAnswer
     ensures { λ r. ⌜ result (recordAnswer r) (now (chart .exit)) (now (records .exit)) []
         ≡ outcome (ops.readRecord place) (state (now (chart .entry)) (now (records .entry)) []) ⌝ }
 {
-    match check_reading(chart, records.len() / calls::RECORD_WIDTH, place) {
+    match check_reading(chart, records.len(), calls::RECORD_WIDTH, place) {
         Verdict::Refused(r) => RecordAnswer::Refused(r),
         Verdict::Accepted => RecordAnswer::Record(osu_records::record_at(records, place)),
     }
@@ -108,7 +120,7 @@ pub fn read_record_as(chart: &[u8], settings: &[u8], records: &[f64], place: usi
         ≡ outcomeAs (now (settings .entry)) (ops.readRecord place) (state (now (chart .entry)) (now (records .entry)) []) ⌝ }
     ensures settings { λ _. ⌜ now (settings .exit) ≡ now (settings .entry) ⌝ }
 {
-    match check_reading_as(chart, settings, records.len() / calls::RECORD_WIDTH, place) {
+    match check_reading_as(chart, settings, records.len(), calls::RECORD_WIDTH, place) {
         Verdict::Refused(r) => RecordAnswer::Refused(r),
         Verdict::Accepted => RecordAnswer::Record(osu_records::record_at(records, place)),
     }
@@ -119,7 +131,7 @@ pub fn read_values(chart: &[u8], values: &[f64], place: usize) -> ValuesAnswer
     ensures { λ r. ⌜ result (valuesAnswer r) (now (chart .exit)) [] (now (values .exit))
         ≡ outcome (ops.readValues place) (state (now (chart .entry)) [] (now (values .entry))) ⌝ }
 {
-    match check_reading(chart, values.len() / calls::VALUE_WIDTH, place) {
+    match check_reading(chart, values.len(), calls::VALUE_WIDTH, place) {
         Verdict::Refused(r) => ValuesAnswer::Refused(r),
         Verdict::Accepted => ValuesAnswer::Values(eval_values::row_at(values, place)),
     }
@@ -131,7 +143,7 @@ pub fn read_values_as(chart: &[u8], settings: &[u8], values: &[f64], place: usiz
         ≡ outcomeAs (now (settings .entry)) (ops.readValues place) (state (now (chart .entry)) [] (now (values .entry))) ⌝ }
     ensures settings { λ _. ⌜ now (settings .exit) ≡ now (settings .entry) ⌝ }
 {
-    match check_reading_as(chart, settings, values.len() / calls::VALUE_WIDTH, place) {
+    match check_reading_as(chart, settings, values.len(), calls::VALUE_WIDTH, place) {
         Verdict::Refused(r) => ValuesAnswer::Refused(r),
         Verdict::Accepted => ValuesAnswer::Values(eval_values::row_at(values, place)),
     }
@@ -158,7 +170,7 @@ pub fn read_aim_parts(chart: &[u8], records: &[f64], place: usize) -> AimAnswer
     ensures { λ r. ⌜ result (aimAnswer r) (now (chart .exit)) (now (records .exit)) []
         ≡ outcome (ops.readDetail details.aimParts place) (state (now (chart .entry)) (now (records .entry)) []) ⌝ }
 {
-    match check_reading(chart, records.len() / calls::RECORD_WIDTH, place) {
+    match check_reading(chart, records.len(), calls::RECORD_WIDTH, place) {
         Verdict::Refused(r) => AimAnswer::Refused(r),
         Verdict::Accepted => AimAnswer::Aim(aim_at(chart, records, place)),
     }
@@ -170,7 +182,7 @@ pub fn read_aim_parts_as(chart: &[u8], settings: &[u8], records: &[f64], place: 
         ≡ outcomeAs (now (settings .entry)) (ops.readDetail details.aimParts place) (state (now (chart .entry)) (now (records .entry)) []) ⌝ }
     ensures settings { λ _. ⌜ now (settings .exit) ≡ now (settings .entry) ⌝ }
 {
-    match check_reading_as(chart, settings, records.len() / calls::RECORD_WIDTH, place) {
+    match check_reading_as(chart, settings, records.len(), calls::RECORD_WIDTH, place) {
         Verdict::Refused(r) => AimAnswer::Refused(r),
         Verdict::Accepted => AimAnswer::Aim(aim_at(chart, records, place)),
     }
@@ -190,7 +202,7 @@ pub fn read_rhythm(chart: &[u8], records: &[f64], place: usize) -> RhythmAnswer
     ensures { λ r. ⌜ result (rhythmAnswer r) (now (chart .exit)) (now (records .exit)) []
         ≡ outcome (ops.readDetail details.rhythm place) (state (now (chart .entry)) (now (records .entry)) []) ⌝ }
 {
-    match check_reading(chart, records.len() / calls::RECORD_WIDTH, place) {
+    match check_reading(chart, records.len(), calls::RECORD_WIDTH, place) {
         Verdict::Refused(r) => RhythmAnswer::Refused(r),
         Verdict::Accepted => {
             let set = chart_opening::settings_at(chart, calls::SETTINGS_AT);
@@ -205,7 +217,7 @@ pub fn read_rhythm_as(chart: &[u8], settings: &[u8], records: &[f64], place: usi
         ≡ outcomeAs (now (settings .entry)) (ops.readDetail details.rhythm place) (state (now (chart .entry)) (now (records .entry)) []) ⌝ }
     ensures settings { λ _. ⌜ now (settings .exit) ≡ now (settings .entry) ⌝ }
 {
-    match check_reading_as(chart, settings, records.len() / calls::RECORD_WIDTH, place) {
+    match check_reading_as(chart, settings, records.len(), calls::RECORD_WIDTH, place) {
         Verdict::Refused(r) => RhythmAnswer::Refused(r),
         Verdict::Accepted => {
             let set = chart_opening::settings_at(settings, 0);

@@ -1,8 +1,10 @@
 -- `readings::check_reading` meets its contract. Assumes nothing.
-use mathlib.Core.Path.{sym, ap, _∙_}
+use Prim.Native.Nat.{_≤_}
+use mathlib.Core.Path.{sym, ap, _∙_, subst}
 use borrow.Author.Tests.{not-true, not-false}
+use Rattle.chart_fields.specs.Limits.{mostObjects}
 use Rattle.chart_fields.specs.declared.Layout.{Layout}
-use Rattle.chart_opening.proofs.Header.{parts}
+use Rattle.chart_opening.proofs.Header.{few, parts}
 use Rattle.chart_opening.specs.Conditions.{firstOf}
 use Rattle.calls.specs.Conditions.{readConditions}
 use borrow.Author.Needs.{needs}
@@ -21,7 +23,9 @@ layout-of-requires c κs =
     parts _ (sym (c .before .header-ok .ensures) ∙ not-false _ (c .if1 .left)) .long
 
 check-place-requires : tie.Need-check-place-requires
-check-place-requires c κs = search needs
+check-place-requires c κs =
+    let h = sym (c .before .before .header-ok .ensures) ∙ not-false _ (c .before .if1 .left) in
+    (subst (λ (x : Layout). x .n ≤ mostObjects) (sym (c .layout-of .ensures)) (few _ (parts _ h .counts) .objects), search needs, search needs)
 
 returns-2 : tie.Need-returns-2
 unfolding firstOf readConditions

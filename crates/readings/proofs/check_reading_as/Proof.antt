@@ -3,9 +3,13 @@ use Rattle.calls_players.specs.Same.{count-under}
 use Rattle.chart_players.specs.Verdicts.{second-header, second-size, second-passed, long-enough}
 use Rattle.calls.specs.Conditions.{readConditions}
 use Rattle.chart_opening.specs.Conditions.{firstOf}
+use Rattle.chart_fields.specs.Limits.{mostObjects}
 use Rattle.chart_fields.specs.declared.Layout.{Layout}
+use Rattle.chart_opening.proofs.Header.{few, framed}
+use Rattle.chart_players.specs.Under.{framed-under}
 use borrow.Author.Tests.{eq-eqb, ne-eqb, not-true, not-false}
-use mathlib.Core.Path.{sym, ap, _∙_}
+use Prim.Native.Nat.{_≤_}
+use mathlib.Core.Path.{sym, ap, _∙_, subst}
 use borrow.Author.Needs.{needs}
 use Rattle.readings.proofs.check_reading_as.Statement.{statement}
 use Rattle.readings.proofs.check_reading_as.Tie as tie
@@ -23,7 +27,10 @@ layout-of-requires : tie.Need-layout-of-requires
 layout-of-requires c κs = let a = c .before .before .before .before .before .args in long-enough (a .settings .now) (a .chart .now) (sym (c .before .before .header-ok-as .ensures) ∙ not-false _ (c .before .if1 .left)) (c .if2 .left)
 
 check-place-requires : tie.Need-check-place-requires
-check-place-requires c κs = search needs
+check-place-requires c κs =
+    let a = c .before .before .before .before .before .before .args in
+    let h = sym (c .before .before .before .header-ok-as .ensures) ∙ not-false _ (c .before .before .if1 .left) in
+    (subst (λ (x : Layout). x .n ≤ mostObjects) (sym (c .layout-of .ensures)) (few _ (framed _ (framed-under (a .settings .now) (a .chart .now) h) .counts) .objects), search needs, search needs)
 
 returns-3 : tie.Need-returns-3
 unfolding firstOf readConditions
