@@ -20,6 +20,17 @@ const TOP_PAIR: u64 = 0x4000_0000_0000_0000;
 // Half of a long root's digits are below this.
 const HALF: u64 = 0x400_0000;
 
+// An f64 has 29 digits more than an f32, and its exponent's field is 896 more: the pattern of a normal f32 times MORE, with BIAS, is that of the same f64.
+const MORE: u64 = 0x2000_0000;
+
+const BIAS: u64 = 896 * num_floats::FIELD;
+
+// Half of a number's pattern taken off this is the pattern of 1 / root, to some digits.
+const RECIPROCAL: u64 = 0x5FE6_EB50_C7B5_37A9;
+
+// One part in 2^34, in a pattern: the steps to 1 / root come from below, and nearly always less than this is missing.
+const MARGIN: u64 = 0x4_0000;
+
 // A whole root, and what is left of the number.
 struct Digits {
     root: u64,
@@ -63,23 +74,16 @@ fn digit_loop(m: u64, d: u64) -> Digits
     s
 }
 
-// A number near the root of n. Nothing is promised of it but its range: its caller tests it.
-fn near_root(n: u64) -> u64
-    requires { ⌜ n < 2 ^ 54 ⌝ }
-    ensures { λ r. ⌜ r < 2 ^ 31 ⌝ }
-{
-    let x = (n / 4) as f64;
+// The pattern of a number near the root of the one with the pattern b. Nothing is promised of it: what is taken of it is tested.
+fn near_root(b: u64) -> u64 {
+    let x = num_floats::f64_of_bits(b);
     let half = x * 0.5;
-    // Half of the pattern taken off a constant is 1 / root to some digits, and each of the next three steps about doubles them.
-    let y0 = num_floats::f64_of_bits(
-        0x5FE6_EB50_C7B5_37A9 - num_floats::bits_of_f64(x) / 2 % 0x4000_0000_0000_0000,
-    );
+    // 1 / root to some digits, of which each of the three steps about doubles the number.
+    let y0 = num_floats::f64_of_bits(RECIPROCAL - b / 2 % 0x4000_0000_0000_0000);
     let y1 = y0 * (1.5 - half * y0 * y0);
     let y2 = y1 * (1.5 - half * y1 * y1);
     let y3 = y2 * (1.5 - half * y2 * y2);
-    // The sum with 2^52 has the nearest whole number in its last digits; with nearly a half less, the root itself but about once in a hundred, so that
-    // the tests which follow seldom go the other way.
-    num_floats::bits_of_f64(2.0 * x * y3 - 0.49 + num_floats::TWO_52) % 0x8000_0000
+    num_floats::bits_of_f64(x * y3) % num_floats::SIGN + MARGIN
 }
 
 // The number below s, 0 for 0.
@@ -116,12 +120,12 @@ fn tested_root(n: u64, s: u64) -> Digits
     digit_loop(n, 32)
 }
 
-// The root of a number of up to 54 digits.
-fn whole_root(n: u64) -> Digits
-    requires { ⌜ n < 2 ^ 54 ⌝ }
+// The root of a number of up to 54 digits; s is near it, or the digits are found one by one.
+fn whole_root(n: u64, s: u64) -> Digits
+    requires { ⌜ n < 2 ^ 54 ⌝ ∗ ⌜ s < 2 ^ 31 ⌝ }
     ensures { λ r. ⌜ RootRest n (r .root) (r .rest) ⌝ ∗ ⌜ r .root < 2 ^ 27 ⌝ }
 {
-    tested_root(n, not_above(n, near_root(n)))
+    tested_root(n, not_above(n, s))
 }
 
 // The root of m * 2^42 = (h * 2^26 + q)^2 + up - q^2, or digit by digit where up and q do not give it.
@@ -151,11 +155,11 @@ fn joined_root(m: u64, h: u64, q: u64, up: u64) -> Digits
     digit_loop(m, DIGITS_64)
 }
 
-// The root of m * 2^42, from the root of its upper half and a division by twice that.
-fn long_root(m: u64) -> Digits
+// The root of m * 2^42, from the root of its upper half and a division by twice that. near is the pattern of a number with about its digits.
+fn long_root(m: u64, near: u64) -> Digits
     ensures { λ r. ⌜ RootRest (m * 2 ^ 42) (r .root) (r .rest) ⌝ }
 {
-    let top = whole_root(m / 1024);
+    let top = whole_root(m / 1024, near % num_floats::FIELD / HALF + HALF);
     let h = top.root;
     if 0 < h {
         let a = top.rest * HALF + m % 1024 * 0x1_0000;
@@ -167,22 +171,22 @@ fn long_root(m: u64) -> Digits
     digit_loop(m, DIGITS_64)
 }
 
-// The root of the whole part of m * 4^d / 2^64.
-fn root_digits(m: u64, d: u64) -> Digits
+// The root of the whole part of m * 4^d / 2^64. near is the pattern of a number with about its digits.
+fn root_digits(m: u64, d: u64, near: u64) -> Digits
     requires { ⌜ d ≤ 56 ⌝ }
     ensures { λ r. ⌜ RootRest (m * 4 ^ d / 2 ^ 64) (r .root) (r .rest) ⌝ }
 {
     if d == DIGITS_64 {
-        long_root(m)
+        long_root(m, near)
     } else if d == DIGITS_32 {
-        whole_root(m / 0x1_0000)
+        whole_root(m / 0x1_0000, near % num_floats::FIELD / MORE + num_floats::FIELD_32)
     } else {
         digit_loop(m, d)
     }
 }
 
-// The root of sig * 2^e to the nearest number of d digits, scaled by a power of two.
-fn nearest_root(sig: u64, e: u64, d: u64) -> num_floats::Scaled
+// The root of sig * 2^e to the nearest number of d digits, scaled by a power of two. near is the pattern of a number with about its digits.
+fn nearest_root(sig: u64, e: u64, d: u64, near: u64) -> num_floats::Scaled
     requires { ⌜ Radicand sig e d ⌝ }
     ensures { λ r. ⌜ NearestRoot d (sig * 2 ^ e) ((e + 1) / 2 + 32 - d) (r .digits) (r .exponent) ⌝ }
 {
@@ -190,7 +194,7 @@ fn nearest_root(sig: u64, e: u64, d: u64) -> num_floats::Scaled
     let down = e - zeros;
     let m = sig << (zeros - down % 2);
     let exponent = (down + 1) / 2 + 32 - d;
-    let s = root_digits(m, d);
+    let s = root_digits(m, d, near);
     if s.root < s.rest {
         num_floats::Scaled {
             digits: s.root + 1,
@@ -217,7 +221,7 @@ pub fn root64(x: f64) -> f64
         x
     } else {
         let p = num_floats::parts(b, num_floats::FIELD);
-        let r = nearest_root(p.digits, p.exponent + LOW_64, DIGITS_64);
+        let r = nearest_root(p.digits, p.exponent + LOW_64, DIGITS_64, near_root(b));
         num_floats::f64_of_bits(r.exponent * num_floats::FIELD + r.digits)
     }
 }
@@ -235,7 +239,7 @@ pub fn root32(x: f32) -> f32
         x
     } else {
         let p = num_floats::parts(b, num_floats::FIELD_32);
-        let r = nearest_root(p.digits, p.exponent + LOW_32, DIGITS_32);
+        let r = nearest_root(p.digits, p.exponent + LOW_32, DIGITS_32, near_root(b * MORE + BIAS));
         num_floats::f32_of_bits((r.exponent * num_floats::FIELD_32 + r.digits) as u32)
     }
 }
