@@ -35,26 +35,31 @@ impl Random {
 }
 
 const CALLS: usize = 1000;
+const ROUNDS: usize = 61;
 
 fn quartile(mut times: Vec<f64>) -> f64 {
     times.sort_by(f64::total_cmp);
     times[times.len() / 4]
 }
 
-fn time(run: &mut dyn FnMut()) -> f64 {
+/// Nanoseconds a call. The answers are folded into one number: one that is stored where the next argument is read from would make each call wait for the one before.
+#[inline(never)]
+fn time<A: Copy>(args: &[A], function: &impl Fn(A) -> u64) -> f64 {
     let start = Instant::now();
-    run();
-    start.elapsed().as_nanos() as f64 / CALLS as f64
+    let answers = args.iter().fold(0, |all, &a| all ^ function(black_box(a)));
+    let taken = start.elapsed();
+    black_box(answers);
+    taken.as_nanos() as f64 / args.len() as f64
 }
 
-/// Compares the answers over the arguments, then times the three.
+/// Compares the answers over the arguments, then times the three. Each round has other arguments than the last, so that none meets branches that the processor has learnt.
 fn measure<A: Copy>(name: &str, args: &[A], ours: impl Fn(A) -> u64, bound: impl Fn(A) -> u64, native: impl Fn(A) -> u64) {
     let differ = args.iter().filter(|&&a| ours(a) != bound(a)).count();
     let mut times = [vec![], vec![], vec![]];
-    for _ in 0..61 {
-        times[0].push(time(&mut || args.iter().take(CALLS).for_each(|&a| { black_box(ours(black_box(a))); })));
-        times[1].push(time(&mut || args.iter().take(CALLS).for_each(|&a| { black_box(bound(black_box(a))); })));
-        times[2].push(time(&mut || args.iter().take(CALLS).for_each(|&a| { black_box(native(black_box(a))); })));
+    for round in args.chunks(CALLS) {
+        times[0].push(time(round, &ours));
+        times[1].push(time(round, &bound));
+        times[2].push(time(round, &native));
     }
     let [us, bound, native] = times.map(quartile);
     println!("{name:<12} {us:>9.1} {bound:>9.1} {:>7.2} {native:>9.1} {:>7.2} {differ:>9}", us / bound, us / native);
@@ -63,7 +68,7 @@ fn measure<A: Copy>(name: &str, args: &[A], ours: impl Fn(A) -> u64, bound: impl
 fn main() {
     let table = plain::Table::new();
     let mut r = Random(0x9E3779B97F4A7C15);
-    let n = 20 * CALLS;
+    let n = ROUNDS * CALLS;
     let positive: Vec<f64> = (0..n).map(|_| r.between(0.01, 500.0)).collect();
     let powers: Vec<(f64, f64)> = positive.iter().map(|&b| (b, r.between(0.1, 4.0))).collect();
     let exponents: Vec<f64> = (0..n).map(|_| r.between(-20.0, 20.0)).collect();
