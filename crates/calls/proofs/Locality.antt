@@ -38,7 +38,7 @@ use Rattle.skills.specs.declared.Skills.{Skills}
 use Rattle.skills.specs.Strains.{strains}
 use Rattle.skills_counts.specs.Chart.{sliderAt}
 use Rattle.skills_counts.proofs.Local.{counts-local}
-use Rattle.star_rating.specs.Stars.{ratingsOf}
+use Rattle.skills_stars.specs.Stars.{ratingsOf}
 use Rattle.skills.specs.Chart.{startAt, deltaAt}
 use Rattle.skills.proofs.Local.{strains-local, total-local}
 use Rattle.calls.specs.Tables.{recordWidth, valueWidth}

@@ -21,7 +21,7 @@ use Rattle.chart_opening.specs.declared.Verdict.{Verdict}
 use Rattle.chart_opening.specs.declared.Verdict.the-variants.{Accepted, Refused}
 use Rattle.chart_replacing.specs.Replace.{putObject, placeConditions, replaceConditions, replaceVerdict}
 use Rattle.chart_inserting.specs.Insert.{insertObject, removeObject, noRoom, insertPlaceConditions, insertConditions, removePlaceConditions, removeConditions}
-use Rattle.star_rating.specs.Stars.{finiteAsked}
+use Rattle.skills_stars.specs.Stars.{finiteAsked}
 use Rattle.calls.specs.Tables.{entriesOf}
 use Rattle.calls.specs.Afresh.{Detail, Figure, totals, counts, totalsTo, playing, ratings, count}
 use Rattle.calls.specs.Conditions.{Lengths, scratchShort, replace, insert, remove, readRecord, readValues, readDetail, figure, rowConditions, readConditions, readVerdict, sumConditions, askedConditions, figureConditions, opening, refusal}

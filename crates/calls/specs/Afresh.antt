@@ -22,9 +22,9 @@ use Rattle.skills.specs.Chart.{startAt, deltaAt}
 use Rattle.skills_counts.specs.Counts as Counts
 use Rattle.skills_counts.specs.Chart.{sliderAt}
 use Rattle.skills_counts.specs.declared.ObjectCounts.{ObjectCounts}
-use Rattle.star_rating.specs.Stars.{ratingsOf}
-use Rattle.star_rating.specs.declared.Asked.{Asked}
-use Rattle.star_rating.specs.declared.Ratings.{Ratings}
+use Rattle.skills_stars.specs.Stars.{ratingsOf}
+use Rattle.skills_stars.specs.declared.Asked.{Asked}
+use Rattle.skills_stars.specs.declared.Ratings.{Ratings}
 use Rattle.calls.specs.Tables.{valueWidth}
 
 -- document 01's object record

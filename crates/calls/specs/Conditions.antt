@@ -12,7 +12,7 @@ use Rattle.chart_opening.specs.declared.Verdict.{Verdict}
 use Rattle.chart_replacing.specs.Replace.{replaceVerdict}
 use Rattle.chart_inserting.specs.Insert.{insertVerdict, removeVerdict}
 use Rattle.calls.specs.Tables.{leastScratch, recordEntries, valueEntries, entriesOf}
-use Rattle.star_rating.specs.Stars.{finiteAsked}
+use Rattle.skills_stars.specs.Stars.{finiteAsked}
 use Rattle.calls.specs.Afresh.{Detail, Figure, totals, counts, totalsTo, playing, ratings}
 
 -- the four slices of scratch that a figure is lent, one for each skill; and their lengths

@@ -29,7 +29,7 @@ use Rattle.skills.specs.Strains.{total}
 use Rattle.skills.specs.Chart.{startAt, deltaAt}
 use Rattle.skills_counts.specs.Counts as Counts
 use Rattle.skills_counts.specs.Chart.{sliderAt}
-use Rattle.star_rating.specs.Stars.{ratingsOf}
+use Rattle.skills_stars.specs.Stars.{ratingsOf}
 use Rattle.calls.specs.Tables.{recordWidth, valueWidth}
 use Rattle.calls.specs.Afresh.{count, object, freshRow, valuesFrom, Detail, aimParts, rhythm, aimIs, rhythmIs, detailOf, detailFrom, Figure, totals, counts, totalsTo, playing, ratings, totalsAre, countsAre, playedAre, ratingsAre, totalsOf, reachedOf, countsOf, figureOf, figureFrom}
 use Rattle.calls.specs.Calls.{openStart, openMade, openRecords, openValues, recordsStart, recordsMade, valuesStart, valuesMade, editRecords, editValues}

@@ -2,7 +2,7 @@
 ghost use mathlib.Core.Path.{_≡_};
 ghost use Prim.Native.Nat.{_≤_};
 ghost use lib.ListN.{length, take};
-ghost use Rattle.listing.specs.List.{listText};
+ghost use Rattle.print_listing.specs.List.{listText};
 
 // One byte more than the longest chart that is listed.
 fn input() -> [u8; 32769]
@@ -16,7 +16,7 @@ fn list(out: &mut [u8], chart: &[u8]) -> usize
     requires { ⌜ 65536 ≤ length (now out) ⌝ }
     ensures { λ r. ⌜ (r ≤ length (now (out .exit))) × (take r (now (out .exit)) ≡ listText (now (chart .entry))) ⌝ }
 {
-    listing::put_chart(out, chart)
+    print_listing::put_chart(out, chart)
 }
 
 // Lists what standard input has, and writes it.

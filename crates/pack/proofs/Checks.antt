@@ -17,13 +17,13 @@ use Rattle.chart_opening.specs.declared.Refusal.{Refusal}
 use Rattle.chart_opening.specs.declared.Refusal.the-variants.{Header, Table, Place, NotFinite}
 use Rattle.chart_opening.specs.declared.Verdict.{Verdict}
 use Rattle.chart_opening.specs.declared.Verdict.the-variants.{Accepted, Refused}
-use Rattle.star_rating.specs.Stars.{finiteAsked}
-use Rattle.star_rating.specs.declared.Asked.{Asked}
+use Rattle.skills_stars.specs.Stars.{finiteAsked}
+use Rattle.skills_stars.specs.declared.Asked.{Asked}
 use Rattle.calls.specs.Tables.{valueEntries, entriesOf}
 use Rattle.calls.specs.Afresh.{count, ratings}
 use Rattle.calls.specs.Conditions.{Lengths, scratchShort, sumConditions, sumVerdict, askedConditions, figureConditions, figureVerdict, opening}
 use Rattle.calls.proofs.Refusals.{opening-met, sum-accepted, sum-passed, long, figure-refused, figure-passed}
-use Rattle.figures.specs.Answers.{Sums}
+use Rattle.calls_figures.specs.Answers.{Sums}
 use Rattle.pack_order.specs.Listing.{mostCharts, Inside, isInside, chartAt}
 use Rattle.pack_order.proofs.Lies.{is-inside}
 use Rattle.pack.specs.Pack.{chartVerdict, listedVerdict, rankVerdict, chartCheck, listedCheck}

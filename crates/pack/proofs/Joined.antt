@@ -10,7 +10,7 @@ use Rattle.chart_opening.specs.Accepted.{head-accepts, tail-accepts, first-acce
 use Rattle.chart_opening.specs.declared.Refusal.{Refusal}
 use Rattle.chart_opening.specs.declared.Verdict.{Verdict}
 use Rattle.chart_opening.specs.declared.Verdict.the-variants.{Accepted, Refused}
-use Rattle.star_rating.specs.declared.Asked.{Asked}
+use Rattle.skills_stars.specs.declared.Asked.{Asked}
 use Rattle.calls.specs.Conditions.{Lengths}
 use Rattle.pack_order.specs.Sort.{sort, count, All}
 use Rattle.pack_order.specs.SortLaws.{sort-count, all-sort}

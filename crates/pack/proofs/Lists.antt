@@ -11,8 +11,8 @@ use Rattle.chart_opening.specs.Conditions.{firstOf, ifAccepted}
 use Rattle.chart_opening.specs.declared.Refusal.{Refusal}
 use Rattle.chart_opening.specs.declared.Verdict.{Verdict}
 use Rattle.chart_opening.specs.declared.Verdict.the-variants.{Accepted, Refused}
-use Rattle.star_rating.specs.Stars.{finiteAsked}
-use Rattle.star_rating.specs.declared.Asked.{Asked}
+use Rattle.skills_stars.specs.Stars.{finiteAsked}
+use Rattle.skills_stars.specs.declared.Asked.{Asked}
 use Rattle.calls.specs.Tables.{entriesOf}
 use Rattle.calls.specs.Conditions.{Scratch, Lengths, lengths, scratchShort}
 use Rattle.calls.specs.Calls.{cleared}

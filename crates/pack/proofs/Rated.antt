@@ -12,7 +12,7 @@ use Rattle.num_tables.specs.Rows.{fill-suc}
 use Rattle.chart_opening.specs.Header.{layoutOf, settingsOf}
 use Rattle.skills.specs.Chart as Chart
 use Rattle.skills.specs.declared.Skills.{Skills}
-use Rattle.star_rating.specs.declared.Asked.{Asked}
+use Rattle.skills_stars.specs.declared.Asked.{Asked}
 use Rattle.calls.specs.Tables.{recordWidth, valueWidth}
 use Rattle.calls.specs.Afresh.{count, freshValues, totalsOf}
 use Rattle.calls.specs.Calls.{opened}

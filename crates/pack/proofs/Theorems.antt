@@ -12,8 +12,8 @@ use Rattle.chart_opening.specs.Conditions.{refuseIf, firstOf, ifAccepted}
 use Rattle.chart_opening.specs.declared.Refusal.the-variants.{Header, Place}
 use Rattle.chart_opening.specs.declared.Verdict.{Verdict}
 use Rattle.chart_opening.specs.declared.Verdict.the-variants.{Accepted, Refused}
-use Rattle.star_rating.specs.Stars.{ratingsOf}
-use Rattle.star_rating.specs.declared.Asked.{Asked}
+use Rattle.skills_stars.specs.Stars.{ratingsOf}
+use Rattle.skills_stars.specs.declared.Asked.{Asked}
 use Rattle.calls.specs.Tables.{recordWidth, valueWidth}
 use Rattle.calls.specs.Afresh.{Figure, count, totals, ratings, totalsAre, ratingsAre, figureOf, freshFigure, figureFrom}
 use Rattle.calls.specs.Conditions.{Scratch, Lengths, lengths, askedConditions, opening}

@@ -11,8 +11,8 @@ use Rattle.chart_opening.specs.Conditions.{refuseIf, firstOf, ifAccepted, openV
 use Rattle.chart_opening.specs.declared.Refusal.the-variants.{Header, Table, Place, NotFinite}
 use Rattle.chart_opening.specs.declared.Verdict.{Verdict}
 use Rattle.skills.specs.declared.Skills.{Skills}
-use Rattle.star_rating.specs.Stars.{ratingsOf}
-use Rattle.star_rating.specs.declared.Asked.{Asked}
+use Rattle.skills_stars.specs.Stars.{ratingsOf}
+use Rattle.skills_stars.specs.declared.Asked.{Asked}
 use Rattle.calls.specs.Tables.{valueEntries}
 use Rattle.calls.specs.Afresh.{count, freshValues, totalsOf, ratings}
 use Rattle.calls.specs.Conditions.{Scratch, Lengths, lengths, scratchShort, figureVerdict, opening}

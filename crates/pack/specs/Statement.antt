@@ -13,8 +13,8 @@ use Rattle.chart_opening.specs.Header.{settingsOf}
 use Rattle.chart_opening.specs.declared.Refusal.{Refusal}
 use Rattle.chart_opening.specs.declared.Refusal.the-variants.{Header, Place}
 use Rattle.chart_opening.specs.declared.Verdict.the-variants.{Accepted, Refused}
-use Rattle.star_rating.specs.Stars.{ratingsOf}
-use Rattle.star_rating.specs.declared.Asked.{Asked}
+use Rattle.skills_stars.specs.Stars.{ratingsOf}
+use Rattle.skills_stars.specs.declared.Asked.{Asked}
 use Rattle.calls.specs.Afresh.{count, totals, ratings, totalsAre, ratingsAre, figureFrom}
 use Rattle.calls.specs.Conditions.{Scratch, Lengths}
 use Rattle.calls.specs.Calls.{state, openLeaves, cleared}

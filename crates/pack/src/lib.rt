@@ -12,14 +12,14 @@ ghost use Rattle.skills.specs.Chart.{totalsOf};
 ghost use Rattle.calls.specs.Tables.{entriesOf};
 ghost use Rattle.calls.specs.Conditions.{lengths, scratchShort, opening};
 ghost use Rattle.calls.specs.Calls.{cleared};
-ghost use Rattle.figures.specs.Answers.{Sums, scratchOf};
+ghost use Rattle.calls_figures.specs.Answers.{Sums, scratchOf};
 ghost use Rattle.pack_order.specs.Listing.{chartAt, ranked, mostCharts, keyWidth};
 ghost use Rattle.pack.specs.Pack.{keyRow, keyFrom, keyOf, chartVerdict, listedVerdict, rankVerdict, tables, openedInto, tablesAfter, buffers, rankAnswer};
 ghost use Rattle.pack.specs.Pack.{rankedBuffers, rankLeaves, chartCheck, listedCheck};
 use chart_opening::Refusal;
 use chart_opening::Verdict;
 use skills::Skills;
-use star_rating::Asked;
+use skills_stars::Asked;
 
 // The most charts that are listed, and the numbers by which a chart is ordered.
 const MOST_CHARTS: usize = 256;
@@ -135,7 +135,7 @@ fn key_of(
         speed,
         flashlight,
     );
-    let r = star_rating::eval(t, lay.n as u32, asked);
+    let r = skills_stars::eval(t, lay.n as u32, asked);
     Key {
         stars: r.stars,
         aim: t.aim,

@@ -3,12 +3,12 @@
 // (u32), then approach rate, overall difficulty, base multiplier, attraction strength and start scale (f64).
 ghost use Prim.Native.Nat.{_≤_};
 ghost use lib.ListN.{length};
+use calls_figures::RatingsAnswer;
 use chart_opening::Refusal;
 use chart_opening::Verdict;
-use figures::RatingsAnswer;
-use rating::Mods;
-use star_rating::Asked;
-use star_rating::Ratings;
+use skills_rating::Mods;
+use skills_stars::Asked;
+use skills_stars::Ratings;
 
 // The bytes in front of the chart, and the longest chart that is rated.
 const ASKED: usize = 48;
@@ -50,12 +50,12 @@ fn asked_of(s: &[u8]) -> Asked
 
 // The word ratings and the four numbers.
 fn put_ratings(out: &mut [u8], r: Ratings) -> usize {
-    let word = text::put_all(out, 0, b"ratings");
-    let aim = lines::put_f64(out, word, r.aim);
-    let speed = lines::put_f64(out, aim, r.speed);
-    let flashlight = lines::put_f64(out, speed, r.flashlight);
-    let stars = lines::put_f64(out, flashlight, r.stars);
-    text::put(out, stars, b'\n')
+    let word = print_text::put_all(out, 0, b"ratings");
+    let aim = print_lines::put_f64(out, word, r.aim);
+    let speed = print_lines::put_f64(out, aim, r.speed);
+    let flashlight = print_lines::put_f64(out, speed, r.flashlight);
+    let stars = print_lines::put_f64(out, flashlight, r.stars);
+    print_text::put(out, stars, b'\n')
 }
 
 // The line of a chart that is opened.
@@ -64,7 +64,7 @@ fn put_opened(out: &mut [u8], chart: &[u8], values: &[f64], asked: Asked) -> usi
     let mut aim_no_sliders = [0.0f64; SCRATCH];
     let mut speed = [0.0f64; SCRATCH];
     let mut flashlight = [0.0f64; SCRATCH];
-    match figures::ratings(
+    match calls_figures::ratings(
         chart,
         values,
         asked,
@@ -73,7 +73,7 @@ fn put_opened(out: &mut [u8], chart: &[u8], values: &[f64], asked: Asked) -> usi
         &mut speed[..],
         &mut flashlight[..],
     ) {
-        RatingsAnswer::Refused(r) => lines::put_refusal(out, 0, r),
+        RatingsAnswer::Refused(r) => print_lines::put_refusal(out, 0, r),
         RatingsAnswer::Ratings(r) => put_ratings(out, r),
     }
 }
@@ -81,12 +81,12 @@ fn put_opened(out: &mut [u8], chart: &[u8], values: &[f64], asked: Asked) -> usi
 // The line of a chart. More bytes than the limit are refused before any check.
 fn put_chart(out: &mut [u8], chart: &[u8], asked: Asked) -> usize {
     if LIMIT < chart.len() {
-        return lines::put_refusal(out, 0, Refusal::Table);
+        return print_lines::put_refusal(out, 0, Refusal::Table);
     }
     let mut records = [0.0f64; RECORDS];
     let mut values = [0.0f64; VALUES];
-    match editor::open(chart, &mut records[..], &mut values[..]) {
-        Verdict::Refused(r) => lines::put_refusal(out, 0, r),
+    match calls_editor::open(chart, &mut records[..], &mut values[..]) {
+        Verdict::Refused(r) => print_lines::put_refusal(out, 0, r),
         Verdict::Accepted => put_opened(out, chart, &values[..], asked),
     }
 }
@@ -95,7 +95,7 @@ fn put_chart(out: &mut [u8], chart: &[u8], asked: Asked) -> usize {
 fn put_input(out: &mut [u8], input: &[u8]) -> usize {
     let n = input.len();
     if n < ASKED {
-        return lines::put_refusal(out, 0, Refusal::Header);
+        return print_lines::put_refusal(out, 0, Refusal::Header);
     }
     let asked = asked_of(input);
     put_chart(out, &input[ASKED..n], asked)
@@ -105,7 +105,7 @@ fn put_input(out: &mut [u8], input: &[u8]) -> usize {
 fn run(out: &mut [u8], input: &mut [u8]) {
     let n = io::read_full(0, input);
     let end = put_input(out, &input[..n]);
-    text::show(out, end);
+    print_text::show(out, end);
 }
 
 fn main() {

@@ -10,7 +10,7 @@ use borrow.Author.Tests.{ltb-true, ltb-false}
 use Rattle.chart_opening.specs.Conditions.{firstOf, ifAccepted}
 use Rattle.chart_opening.specs.declared.Verdict.{Verdict}
 use Rattle.chart_opening.specs.declared.Verdict.the-variants.{Accepted, Refused}
-use Rattle.star_rating.specs.declared.Asked.{Asked}
+use Rattle.skills_stars.specs.declared.Asked.{Asked}
 use Rattle.calls.specs.Conditions.{Lengths, lengths}
 use Rattle.pack_order.specs.Listing.{chartAt}
 use Rattle.pack.specs.Pack.{listedVerdict, rankVerdict, Buffers, rankAnswer, rankedBuffers, rankLeaves}

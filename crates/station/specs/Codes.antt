@@ -19,9 +19,9 @@ use Rattle.eval_aim.specs.declared.AimRule.{AimRule}
 use Rattle.eval_aim.specs.declared.AimRule.the-variants.{TooFew, Spinner, Acute, Wide}
 use Rattle.skills.specs.declared.Skills.{Skills}
 use Rattle.skills_counts.specs.declared.ObjectCounts.{ObjectCounts}
-use Rattle.rating.specs.Mods.{modsOf}
-use Rattle.star_rating.specs.declared.Asked.{Asked}
-use Rattle.star_rating.specs.declared.Ratings.{Ratings}
+use Rattle.skills_rating.specs.Mods.{modsOf}
+use Rattle.skills_stars.specs.declared.Asked.{Asked}
+use Rattle.skills_stars.specs.declared.Ratings.{Ratings}
 use Rattle.calls.specs.Tables.{valueEntries}
 use Rattle.calls.specs.Afresh.{Finding, aimIs, rhythmIs, Figure, Amount, totalsAre, countsAre, playedAre, ratingsAre}
 use Rattle.calls.specs.Conditions.{Scratch, Lengths, lengths, scratchShort, Operation, figure, figureVerdict}

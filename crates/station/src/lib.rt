@@ -19,29 +19,29 @@ ghost use Rattle.calls.specs.Tables.{totalsWidth};
 ghost use Rattle.calls.specs.Calls.{state, result, openAnswer, openLeaves, verdictIn, outcome, listAfter, scratchAfter};
 ghost use Rattle.calls_players.specs.Second.{openAnswerAs, openLeavesAs, verdictAs, outcomeAs, scratchAfterAs};
 ghost use Rattle.calls_players.specs.Both.{pair, bothAnswer, bothLeaves};
-ghost use Rattle.readings.specs.Answers.{recordAnswer, valuesAnswer, aimFinding, aimAnswer, rhythmAnswer};
-ghost use Rattle.figures.specs.Answers.{totalsAnswer, countsAnswer, ratingsAnswer, scratchOf};
+ghost use Rattle.calls_readings.specs.Answers.{recordAnswer, valuesAnswer, aimFinding, aimAnswer, rhythmAnswer};
+ghost use Rattle.calls_figures.specs.Answers.{totalsAnswer, countsAnswer, ratingsAnswer, scratchOf};
 ghost use Rattle.station.specs.Codes.{codeOf, verdictCode, answerCode, ruleNumber, findingRow, numbersOf, totalsRow, countsRow, ratingsRow};
 ghost use Rattle.station.specs.Codes.{aimWidth, rhythmWidth, countsWidth, ratingsWidth, askedOf, ratingsCramped};
 ghost use Rattle.station.specs.Codes.{noRoom, readInto, figureInto, scratchInto, readIntoAs, figureIntoAs, scratchIntoAs};
 ghost use Rattle.station.specs.Codes.{numbersWidth, rankVerdictInto, rankInto};
 ghost use Rattle.pack.specs.Pack.{buffers, tables};
+use calls_figures::CountsAnswer;
+use calls_figures::RatingsAnswer;
+use calls_figures::TotalsAnswer;
+use calls_readings::AimAnswer;
+use calls_readings::AimDetail;
+use calls_readings::RecordAnswer;
+use calls_readings::RhythmAnswer;
+use calls_readings::ValuesAnswer;
 use chart_opening::Refusal;
 use chart_opening::Verdict;
 use eval_aim::AimRule;
-use figures::CountsAnswer;
-use figures::RatingsAnswer;
-use figures::TotalsAnswer;
-use rating::Mods;
-use readings::AimAnswer;
-use readings::AimDetail;
-use readings::RecordAnswer;
-use readings::RhythmAnswer;
-use readings::ValuesAnswer;
 use skills::Skills;
 use skills_counts::ObjectCounts;
-use star_rating::Asked;
-use star_rating::Ratings;
+use skills_rating::Mods;
+use skills_stars::Asked;
+use skills_stars::Ratings;
 
 // How many places a code tells apart, and how many totals, counts and ratings there are.
 const PLACE_SPAN: usize = 0x1_0000_0000;
@@ -80,7 +80,7 @@ pub extern "C" fn difficulty_open_as(
         ≡ openLeavesAs (now (settings .entry)) (state (now (chart .entry)) (now (records .entry)) (now (values .entry))) ⌝ }
     ensures settings { λ _. ⌜ now (settings .exit) ≡ now (settings .entry) ⌝ }
 {
-    match editor::open_as(chart, settings, records, values) {
+    match calls_editor::open_as(chart, settings, records, values) {
         Verdict::Refused(r) => code(r),
         Verdict::Accepted => 0,
     }
@@ -115,7 +115,7 @@ pub extern "C" fn difficulty_replace(
         ≡ outcome (ops.replace place (now (object .entry))) (state (now (chart .entry)) (now (records .entry)) (now (values .entry))) .leaves ⌝ }
     ensures object { λ _. ⌜ now (object .exit) ≡ now (object .entry) ⌝ }
 {
-    match editor::replace(chart, place, object, records, values) {
+    match calls_editor::replace(chart, place, object, records, values) {
         Verdict::Refused(r) => code(r),
         Verdict::Accepted => 0,
     }
@@ -141,7 +141,7 @@ pub extern "C" fn difficulty_replace_both(
     ensures settings { λ _. ⌜ now (settings .exit) ≡ now (settings .entry) ⌝ }
     ensures object { λ _. ⌜ now (object .exit) ≡ now (object .entry) ⌝ }
 {
-    match editor::replace_both(
+    match calls_editor::replace_both(
         chart,
         settings,
         place,
@@ -172,7 +172,7 @@ pub extern "C" fn difficulty_insert(
         ≡ outcome (ops.insert place (now (object .entry))) (state (now (chart .entry)) (now (records .entry)) (now (values .entry))) .leaves ⌝ }
     ensures object { λ _. ⌜ now (object .exit) ≡ now (object .entry) ⌝ }
 {
-    match editor::insert(chart, place, object, records, values) {
+    match calls_editor::insert(chart, place, object, records, values) {
         Verdict::Refused(r) => code(r),
         Verdict::Accepted => 0,
     }
@@ -198,7 +198,7 @@ pub extern "C" fn difficulty_insert_both(
     ensures settings { λ _. ⌜ now (settings .exit) ≡ now (settings .entry) ⌝ }
     ensures object { λ _. ⌜ now (object .exit) ≡ now (object .entry) ⌝ }
 {
-    match editor::insert_both(
+    match calls_editor::insert_both(
         chart,
         settings,
         place,
@@ -226,7 +226,7 @@ pub extern "C" fn difficulty_remove(
     ensures leaves { λ _. ⌜ state (now (chart .exit)) (now (records .exit)) (now (values .exit))
         ≡ outcome (ops.remove place) (state (now (chart .entry)) (now (records .entry)) (now (values .entry))) .leaves ⌝ }
 {
-    match editor::remove(chart, place, records, values) {
+    match calls_editor::remove(chart, place, records, values) {
         Verdict::Refused(r) => code(r),
         Verdict::Accepted => 0,
     }
@@ -250,7 +250,7 @@ pub extern "C" fn difficulty_remove_both(
         (pair (now (chart .entry)) (now (records .entry)) (now (values .entry)) (now («second_records» .entry)) (now («second_values» .entry))) ⌝ }
     ensures settings { λ _. ⌜ now (settings .exit) ≡ now (settings .entry) ⌝ }
 {
-    match editor::remove_both(
+    match calls_editor::remove_both(
         chart,
         settings,
         place,
@@ -301,7 +301,7 @@ fn record_into_as(
     if room < calls::RECORD_WIDTH {
         return RecordAnswer::Refused(no_room_as(chart, settings));
     }
-    readings::read_record_as(chart, settings, records, place)
+    calls_readings::read_record_as(chart, settings, records, place)
 }
 
 // Writes the record of a place, as the table has it: sixteen numbers, in the table's order, for the second player with these settings.
@@ -340,7 +340,7 @@ fn record_into(chart: &[u8], records: &[f64], place: usize, room: usize) -> Reco
     if room < calls::RECORD_WIDTH {
         return RecordAnswer::Refused(no_room(chart));
     }
-    readings::read_record(chart, records, place)
+    calls_readings::read_record(chart, records, place)
 }
 
 // Writes the record of a place, as the table has it: sixteen numbers, in the table's order.
@@ -383,7 +383,7 @@ fn values_into_as(
     if room < calls::VALUE_WIDTH {
         return ValuesAnswer::Refused(no_room_as(chart, settings));
     }
-    readings::read_values_as(chart, settings, values, place)
+    calls_readings::read_values_as(chart, settings, values, place)
 }
 
 // Writes the five values of a place, as the table has them, for the second player with these settings.
@@ -422,7 +422,7 @@ fn values_into(chart: &[u8], values: &[f64], place: usize, room: usize) -> Value
     if room < calls::VALUE_WIDTH {
         return ValuesAnswer::Refused(no_room(chart));
     }
-    readings::read_values(chart, values, place)
+    calls_readings::read_values(chart, values, place)
 }
 
 // Writes the five values of a place, as the table has them.
@@ -464,7 +464,7 @@ fn aim_into_as(
     if room < AIM_WIDTH {
         return AimAnswer::Refused(no_room_as(chart, settings));
     }
-    readings::read_aim_parts_as(chart, settings, records, place)
+    calls_readings::read_aim_parts_as(chart, settings, records, place)
 }
 
 // The rule that answered, as a number.
@@ -570,7 +570,7 @@ fn rhythm_into_as(
     if room < RHYTHM_WIDTH {
         return RhythmAnswer::Refused(no_room_as(chart, settings));
     }
-    readings::read_rhythm_as(chart, settings, records, place)
+    calls_readings::read_rhythm_as(chart, settings, records, place)
 }
 
 // Writes the rhythm value of a place, and how often an island was compared with a kept one for it, for the second player with these settings.
@@ -658,7 +658,7 @@ fn totals_into(
             values.len() / calls::VALUE_WIDTH,
         ));
     }
-    figures::totals_as(
+    calls_figures::totals_as(
         chart,
         settings,
         values,
@@ -793,7 +793,7 @@ fn totals_to_into(
             values.len() / calls::VALUE_WIDTH,
         ));
     }
-    figures::totals_to_as(
+    calls_figures::totals_to_as(
         chart,
         settings,
         values,
@@ -918,7 +918,7 @@ pub extern "C" fn difficulty_totals_while_playing_as(
         (scratchOf (now (aim .entry)) (now («aim_no_sliders» .entry)) (now (speed .entry)) (now (flashlight .entry))) ⌝ }
     ensures settings { λ _. ⌜ now (settings .exit) ≡ now (settings .entry) ⌝ }
 {
-    match figures::totals_while_playing_as(
+    match calls_figures::totals_while_playing_as(
         chart,
         settings,
         values,
@@ -997,7 +997,7 @@ fn counts_into(
             values.len() / calls::VALUE_WIDTH,
         ));
     }
-    figures::counts_as(
+    calls_figures::counts_as(
         chart,
         settings,
         values,
@@ -1166,7 +1166,7 @@ fn ratings_into(
             values.len() / calls::VALUE_WIDTH,
         ));
     }
-    figures::ratings_as(
+    calls_figures::ratings_as(
         chart,
         settings,
         values,

@@ -27,8 +27,8 @@ fn list(
         × (8192 ≤ length (now a)) × (8192 ≤ length (now b)) × (8192 ≤ length (now c)) × (8192 ≤ length (now d)) ⌝ }
 {
     let counts = skills_counts::counts(chart, lay, clock, values, a, b, c, d);
-    let end = lines::put_counts(out, 0, counts);
-    text::show(out, end);
+    let end = print_lines::put_counts(out, 0, counts);
+    print_text::show(out, end);
 }
 
 // The tables of a chart that is ready to be read.
@@ -54,7 +54,7 @@ fn answer(
         × (8192 ≤ length (now a)) × (8192 ≤ length (now b)) × (8192 ≤ length (now c)) × (8192 ≤ length (now d)) ⌝ }
 {
     match chart_opening::check(chart, 1024) {
-        Verdict::Refused(r) => lines::show_refusal(out, r),
+        Verdict::Refused(r) => print_lines::show_refusal(out, r),
         Verdict::Accepted => {
             let lay = chart_opening::layout_of(chart);
             let set = chart_opening::settings_at(chart, 32);
@@ -80,7 +80,7 @@ fn run(
 {
     let mut left = MOST;
     while 0 < left {
-        let n = text::read_chart(chart);
+        let n = print_text::read_chart(chart);
         if n <= chart.len() {
             answer(out, &chart[0..n], t, values, a, b, c, d);
             left -= 1;

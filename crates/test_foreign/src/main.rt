@@ -13,13 +13,13 @@ fn answer(out: &mut [u8], chart: &[u8], bytes: &mut [u8], t: &mut [f64], values:
     requires { ⌜ (8192 ≤ length (now t)) × (2560 ≤ length (now values)) ⌝ }
 {
     match chart_opening::check(chart, 512) {
-        Verdict::Refused(r) => lines::show_refusal(out, r),
+        Verdict::Refused(r) => print_lines::show_refusal(out, r),
         Verdict::Accepted => {
             let lay = chart_opening::layout_of(chart);
             let set = chart_opening::settings_at(chart, 32);
-            text::read_numbers(16 * lay.n, bytes, t);
+            print_text::read_numbers(16 * lay.n, bytes, t);
             eval_values::fill_values(values, t, chart, lay, set, 1, lay.n);
-            lines::show_values(out, values, lay.n);
+            print_lines::show_values(out, values, lay.n);
         }
     }
 }
@@ -30,7 +30,7 @@ fn run(out: &mut [u8], chart: &mut [u8], bytes: &mut [u8], t: &mut [f64], values
 {
     let mut left = MOST;
     while 0 < left {
-        let n = text::read_chart(chart);
+        let n = print_text::read_chart(chart);
         if n <= chart.len() {
             answer(out, &chart[0..n], bytes, t, values);
             left -= 1;

@@ -20,7 +20,7 @@ fn put(s: &mut [u8], at: usize, v: u64, bytes: usize) -> usize {
     let mut rest = v;
     let mut left = bytes;
     while 0 < left {
-        end = text::put(s, end, (rest % 256) as u8);
+        end = print_text::put(s, end, (rest % 256) as u8);
         rest = rest / 256;
         left -= 1;
     }
@@ -71,10 +71,10 @@ fn answer(out: &mut [u8], verdict: Verdict, word: &[u8]) {
             io::write_all(1, word);
         }
         Verdict::Refused(r) => {
-            let refused = text::put_all(out, 0, b"refused ");
-            let number = text::put_decimal(out, refused, r.number() as u64);
-            let end = text::put(out, number, b'\n');
-            text::show(out, end);
+            let refused = print_text::put_all(out, 0, b"refused ");
+            let number = print_text::put_decimal(out, refused, r.number() as u64);
+            let end = print_text::put(out, number, b'\n');
+            print_text::show(out, end);
         }
     }
 }

@@ -7,10 +7,10 @@ const MOST: usize = 65536;
 fn run(out: &mut [u8], chart: &mut [u8]) {
     let mut left = MOST;
     while 0 < left {
-        let n = text::read_chart(chart);
+        let n = print_text::read_chart(chart);
         if n <= chart.len() {
-            let end = listing::put_chart(out, &chart[0..n]);
-            text::show(out, end);
+            let end = print_listing::put_chart(out, &chart[0..n]);
+            print_text::show(out, end);
             left -= 1;
         } else {
             left = 0;

@@ -55,15 +55,15 @@ fn of_more(f: u8, x: f64, y: f64, z: f64) -> f64 {
 fn answer(out: &mut [u8], at: usize, f: u8, x: u64, y: u64, z: u64) -> usize {
     let a = num_floats::f64_of_bits(x);
     match f {
-        b'i' => text::put_f64(out, at, num_whole::to_i32(a) as f64),
-        b'n' => text::put_f32(out, at, num_whole::f64_to_f32(a)),
-        b'q' => text::put_f32(out, at, root32_of(x)),
-        b'N' => text::put(
+        b'i' => print_text::put_f64(out, at, num_whole::to_i32(a) as f64),
+        b'n' => print_text::put_f32(out, at, num_whole::f64_to_f32(a)),
+        b'q' => print_text::put_f32(out, at, root32_of(x)),
+        b'N' => print_text::put(
             out,
             at,
             told(num_util::float_ext::not_eq(a, num_floats::f64_of_bits(y))),
         ),
-        _ => text::put_f64(
+        _ => print_text::put_f64(
             out,
             at,
             of_more(f, a, num_floats::f64_of_bits(y), num_floats::f64_of_bits(z)),
@@ -93,7 +93,7 @@ fn answers(s: &[u8], n: usize, out: &mut [u8]) -> usize
         let y = num_floats::u64_at(s, at + 9);
         let z = num_floats::u64_at(s, at + 17);
         let stop = answer(out, end, s[at], x, y, z);
-        end = text::put(out, stop, b'\n');
+        end = print_text::put(out, stop, b'\n');
         i += 1;
     }
     end
@@ -106,7 +106,7 @@ fn run(s: &mut [u8], out: &mut [u8]) {
         let got = io::read_full(0, s);
         let n = got / SIZE;
         let end = answers(s, n, out);
-        text::show(out, end);
+        print_text::show(out, end);
         if got < s.len() {
             return;
         }

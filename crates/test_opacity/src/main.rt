@@ -9,9 +9,9 @@ const MOST: usize = 65536;
 // Writes a number's bits on a line.
 fn show(x: f64) {
     let mut line = [0u8; 32];
-    let mut end = text::put_f64(&mut line[..], 0, x);
-    end = text::put(&mut line[..], end, b'\n');
-    text::show(&line[..], end);
+    let mut end = print_text::put_f64(&mut line[..], 0, x);
+    end = print_text::put(&mut line[..], end, b'\n');
+    print_text::show(&line[..], end);
 }
 
 // Reads a question and answers it; false at the end of the input.

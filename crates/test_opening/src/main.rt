@@ -11,7 +11,7 @@ fn answer(out: &mut [u8], chart: &[u8]) {
         Verdict::Accepted => {
             io::write_all(1, b"opened\n");
         }
-        Verdict::Refused(r) => lines::show_refusal(out, r),
+        Verdict::Refused(r) => print_lines::show_refusal(out, r),
     }
 }
 
@@ -19,7 +19,7 @@ fn answer(out: &mut [u8], chart: &[u8]) {
 fn run(out: &mut [u8], chart: &mut [u8]) {
     let mut left = MOST;
     while 0 < left {
-        let n = text::read_chart(chart);
+        let n = print_text::read_chart(chart);
         if n <= chart.len() {
             answer(out, &chart[0..n]);
             left -= 1;

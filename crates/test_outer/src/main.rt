@@ -77,14 +77,14 @@ fn show_values(
 )
     requires { ⌜ Ready (now chart) lay × (lay .n ≤ 65) ⌝ }
 {
-    let mut end = lines::put_count(out, 0, lay.n);
+    let mut end = print_lines::put_count(out, 0, lay.n);
     let mut j = 1;
     while j < lay.n {
         let values = values_of_array(chart, rs, lay.n - 1, lay, set, j);
-        end = lines::put_values(out, end, j, values);
+        end = print_lines::put_values(out, end, j, values);
         j += 1;
     }
-    text::show(out, end);
+    print_text::show(out, end);
 }
 
 // The lines of one chart.
@@ -92,7 +92,7 @@ fn answer(out: &mut [u8], chart: &[u8], t: &mut [f64])
     requires { ⌜ 1040 ≤ length (now t) ⌝ }
 {
     match chart_opening::check(chart, 65) {
-        Verdict::Refused(r) => lines::show_refusal(out, r),
+        Verdict::Refused(r) => print_lines::show_refusal(out, r),
         Verdict::Accepted => {
             let lay = chart_opening::layout_of(chart);
             let set = chart_opening::settings_at(chart, 32);
@@ -108,7 +108,7 @@ fn run(out: &mut [u8], chart: &mut [u8], t: &mut [f64])
 {
     let mut left = MOST;
     while 0 < left {
-        let n = text::read_chart(chart);
+        let n = print_text::read_chart(chart);
         if n <= chart.len() {
             answer(out, &chart[0..n], t);
             left -= 1;

@@ -6,8 +6,8 @@
 ghost use Prim.Native.Nat.{_+_, _*_, _≤_};
 ghost use lib.ListN.{length};
 use chart_opening::Verdict;
-use rating::Mods;
-use star_rating::Asked;
+use skills_rating::Mods;
+use skills_stars::Asked;
 
 // Packs that are read at most, and requests of a pack.
 const MOST: usize = 65536;
@@ -80,10 +80,10 @@ fn holds(table: &[f64], bits: u64) -> bool {
 fn read_offsets(list: &mut [usize]) -> usize
     ensures { λ r. ⌜ r ≤ length (now (list .entry)) ⌝ }
 {
-    let n = text::next_length(list.len());
+    let n = print_text::next_length(list.len());
     let mut i = 0;
     while i < n {
-        list[i] = text::next_long() as usize;
+        list[i] = print_text::next_long() as usize;
         i += 1;
     }
     n
@@ -114,8 +114,8 @@ fn put_offsets(out: &mut [u8], at: usize, list: &[usize]) -> usize {
     let mut end = at;
     let mut i = 0;
     while i < list.len() {
-        end = text::put(out, end, b' ');
-        end = text::put_decimal(out, end, wide(list[i]));
+        end = print_text::put(out, end, b' ');
+        end = print_text::put_decimal(out, end, wide(list[i]));
         i += 1;
     }
     end
@@ -125,20 +125,20 @@ fn put_offsets(out: &mut [u8], at: usize, list: &[usize]) -> usize {
 fn put_verdict(out: &mut [u8], v: Verdict, list: &[usize], same: bool, zero: bool) -> usize {
     match v {
         Verdict::Accepted => {
-            let word = text::put_all(out, 0, b"listing");
+            let word = print_text::put_all(out, 0, b"listing");
             let offsets = put_offsets(out, word, list);
-            let end = text::put(out, offsets, b'\n');
+            let end = print_text::put(out, offsets, b'\n');
             if zero {
                 return end;
             }
-            text::put_all(out, end, b"scratch not cleared\n")
+            print_text::put_all(out, end, b"scratch not cleared\n")
         }
         Verdict::Refused(r) => {
-            let end = lines::put_refusal(out, 0, r);
+            let end = print_lines::put_refusal(out, 0, r);
             if same {
                 return end;
             }
-            text::put_all(out, end, b"changed by a refused call\n")
+            print_text::put_all(out, end, b"changed by a refused call\n")
         }
     }
 }
@@ -219,12 +219,12 @@ fn rank_within(
     c: &mut [f64],
     d: &mut [f64],
 ) -> usize {
-    let r = text::next_length(records.len());
-    let v = text::next_length(values.len());
-    let x = text::next_length(a.len());
-    let y = text::next_length(b.len());
-    let z = text::next_length(c.len());
-    let w = text::next_length(d.len());
+    let r = print_text::next_length(records.len());
+    let v = print_text::next_length(values.len());
+    let x = print_text::next_length(a.len());
+    let y = print_text::next_length(b.len());
+    let z = print_text::next_length(c.len());
+    let w = print_text::next_length(d.len());
     rank_with(
         out,
         kind,
@@ -254,7 +254,7 @@ fn rank(
     c: &mut [f64],
     d: &mut [f64],
 ) -> usize {
-    let first = text::next_word();
+    let first = print_text::next_word();
     let asked = read_asked();
     let n = read_offsets(list);
     mark_all(a, b, c, d);
@@ -283,21 +283,21 @@ fn line_end(at: usize) -> usize {
 fn put_numbers(out: &mut [u8], at: usize, place: usize, records: &[f64], values: &[f64]) -> usize
     requires { ⌜ (place ≤ 256) × (16 * place + 16 ≤ length (now records)) × (5 * place + 5 ≤ length (now values)) ⌝ }
 {
-    let line = lines::put_record(out, at, place, osu_records::record_at(records, place));
+    let line = print_lines::put_record(out, at, place, osu_records::record_at(records, place));
     let x = eval_values::row_at(values, place);
-    let aim = lines::put_f64(out, line_end(line), x.aim);
-    let aim_no_sliders = lines::put_f64(out, aim, x.aim_no_sliders);
-    let speed = lines::put_f64(out, aim_no_sliders, x.speed);
-    let rhythm = lines::put_f64(out, speed, x.rhythm);
-    let flashlight = lines::put_f64(out, rhythm, x.flashlight);
-    text::put(out, flashlight, b'\n')
+    let aim = print_lines::put_f64(out, line_end(line), x.aim);
+    let aim_no_sliders = print_lines::put_f64(out, aim, x.aim_no_sliders);
+    let speed = print_lines::put_f64(out, aim_no_sliders, x.speed);
+    let rhythm = print_lines::put_f64(out, speed, x.rhythm);
+    let flashlight = print_lines::put_f64(out, rhythm, x.flashlight);
+    print_text::put(out, flashlight, b'\n')
 }
 
 // What an entry of both tables holds, or that it was never written.
 fn put_entry(out: &mut [u8], place: usize, records: &[f64], values: &[f64]) -> usize
     requires { ⌜ place ≤ 256 ⌝ }
 {
-    let word = text::put_all(out, 0, b"entry ");
+    let word = print_text::put_all(out, 0, b"entry ");
     let r = calls::RECORD_WIDTH * place;
     if records.len() < r + calls::RECORD_WIDTH {
         return word;
@@ -307,8 +307,8 @@ fn put_entry(out: &mut [u8], place: usize, records: &[f64], values: &[f64]) -> u
     }
     let unused = num_floats::bits_of_f64(UNUSED);
     if holds(&records[r..r + calls::RECORD_WIDTH], unused) {
-        let end = text::put_decimal(out, word, wide(place));
-        return text::put_all(out, end, b" kept\n");
+        let end = print_text::put_decimal(out, word, wide(place));
+        return print_text::put_all(out, end, b" kept\n");
     }
     put_numbers(out, word, place, records, values)
 }
@@ -325,14 +325,14 @@ fn answer(
     c: &mut [f64],
     d: &mut [f64],
 ) {
-    let kind = text::next_word();
+    let kind = print_text::next_word();
     if kind == 2 {
-        let end = put_entry(out, text::next_length(ENTRIES), records, values);
-        text::show(out, end);
+        let end = put_entry(out, print_text::next_length(ENTRIES), records, values);
+        print_text::show(out, end);
         return;
     }
     let end = rank(out, kind, pack, list, records, values, a, b, c, d);
-    text::show(out, end);
+    print_text::show(out, end);
 }
 
 // Answers the requests of a pack.
@@ -347,7 +347,7 @@ fn answers(
     c: &mut [f64],
     d: &mut [f64],
 ) {
-    let mut left = text::next_length(MOST);
+    let mut left = print_text::next_length(MOST);
     mark(records);
     mark(values);
     while 0 < left {
@@ -370,7 +370,7 @@ fn run(
 ) {
     let mut left = MOST;
     while 0 < left {
-        let n = text::read_chart(pack);
+        let n = print_text::read_chart(pack);
         if n <= pack.len() {
             answers(out, &pack[0..n], list, records, values, a, b, c, d);
             left -= 1;

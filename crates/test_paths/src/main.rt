@@ -38,11 +38,11 @@ fn position(path: &[u8], count: usize, stated: f64, progress: f64) -> Pos
 // Writes a position as one line.
 fn show(p: Pos) {
     let mut line = [0u8; 32];
-    let mut end = text::put_f32(&mut line[..], 0, p.x);
-    end = text::put(&mut line[..], end, b' ');
-    end = text::put_f32(&mut line[..], end, p.y);
-    end = text::put(&mut line[..], end, b'\n');
-    text::show(&line[..], end);
+    let mut end = print_text::put_f32(&mut line[..], 0, p.x);
+    end = print_text::put(&mut line[..], end, b' ');
+    end = print_text::put_f32(&mut line[..], end, p.y);
+    end = print_text::put(&mut line[..], end, b'\n');
+    print_text::show(&line[..], end);
 }
 
 // Reads a lookup and answers it; false at the end of the input.

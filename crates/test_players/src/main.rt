@@ -4,11 +4,11 @@
 //   32 and a kind of 1, 7, 8: an edit for both; length and bytes of the second player's settings, place, length and bytes of the object, lengths of the record
 //      and the value table of the first player, then of the second
 // Other calls are the first player's. A script ends as there; entries of both players' tables are looked at.
+use calls_readings::AimAnswer;
+use calls_readings::RecordAnswer;
+use calls_readings::RhythmAnswer;
+use calls_readings::ValuesAnswer;
 use chart_opening::Verdict;
-use readings::AimAnswer;
-use readings::RecordAnswer;
-use readings::RhythmAnswer;
-use readings::ValuesAnswer;
 
 // Scripts, and calls of a script, that are read at most.
 const MOST: usize = 65536;
@@ -16,76 +16,76 @@ const MOST: usize = 65536;
 // The line of an opening or an edit.
 fn show_verdict(v: Verdict, word: &[u8], before: u64, after: u64) {
     let mut out = [0u8; 512];
-    let end = script_lines::put_verdict(&mut out[..], 0, v, word, before, after);
-    text::show(&out[..], end);
+    let end = test_script_lines::put_verdict(&mut out[..], 0, v, word, before, after);
+    print_text::show(&out[..], end);
 }
 
 // The line of a record.
 fn show_record(place: usize, answer: RecordAnswer) {
     let mut out = [0u8; 512];
-    let end = script_lines::put_record(&mut out[..], 0, place, answer);
-    text::show(&out[..], end);
+    let end = test_script_lines::put_record(&mut out[..], 0, place, answer);
+    print_text::show(&out[..], end);
 }
 
 // The line of a place's values.
 fn show_values(place: usize, answer: ValuesAnswer) {
     let mut out = [0u8; 512];
-    let end = script_lines::put_values(&mut out[..], 0, place, answer);
-    text::show(&out[..], end);
+    let end = test_script_lines::put_values(&mut out[..], 0, place, answer);
+    print_text::show(&out[..], end);
 }
 
 // The line of aim with its parts.
 fn show_aim_parts(place: usize, answer: AimAnswer) {
     let mut out = [0u8; 512];
-    let end = script_lines::put_aim_parts(&mut out[..], 0, place, answer);
-    text::show(&out[..], end);
+    let end = test_script_lines::put_aim_parts(&mut out[..], 0, place, answer);
+    print_text::show(&out[..], end);
 }
 
 // The line of a rhythm value with its comparisons.
 fn show_rhythm(place: usize, answer: RhythmAnswer) {
     let mut out = [0u8; 512];
-    let end = script_lines::put_rhythm(&mut out[..], 0, place, answer);
-    text::show(&out[..], end);
+    let end = test_script_lines::put_rhythm(&mut out[..], 0, place, answer);
+    print_text::show(&out[..], end);
 }
 
 // The line of what an entry holds.
 fn show_entry(pattern: &[f64], records: &[f64], values: &[f64]) {
     let mut out = [0u8; 512];
-    let end = script_lines::next_entry(&mut out[..], 0, pattern, records, values);
-    text::show(&out[..], end);
+    let end = test_script_lines::next_entry(&mut out[..], 0, pattern, records, values);
+    print_text::show(&out[..], end);
 }
 
 // The line of how many bytes are lent.
 fn show_lent(n: usize) {
     let mut out = [0u8; 512];
-    let end = script_lines::put_lent(&mut out[..], 0, n);
-    text::show(&out[..], end);
+    let end = test_script_lines::put_lent(&mut out[..], 0, n);
+    print_text::show(&out[..], end);
 }
 
 // The line of a chart's length and hash.
 fn show_chart(chart: &[u8]) {
     let mut out = [0u8; 512];
-    let end = script_lines::put_chart(&mut out[..], 0, chart);
-    text::show(&out[..], end);
+    let end = test_script_lines::put_chart(&mut out[..], 0, chart);
+    print_text::show(&out[..], end);
 }
 
 // Opens the chart for the first player.
 fn open(chart: &[u8], records: &mut [f64], values: &mut [f64]) {
-    let r = text::next_length(records.len());
-    let v = text::next_length(values.len());
-    let before = script_lines::hash_all(chart, records, values);
-    let verdict = editor::open(chart, &mut records[0..r], &mut values[0..v]);
-    let after = script_lines::hash_all(chart, records, values);
+    let r = print_text::next_length(records.len());
+    let v = print_text::next_length(values.len());
+    let before = test_script_lines::hash_all(chart, records, values);
+    let verdict = calls_editor::open(chart, &mut records[0..r], &mut values[0..v]);
+    let after = test_script_lines::hash_all(chart, records, values);
     show_verdict(verdict, b"opened\n", before, after);
 }
 
 // Opens the chart for the second player.
 fn open_as(chart: &[u8], settings: &[u8], records: &mut [f64], values: &mut [f64]) {
-    let r = text::next_length(records.len());
-    let v = text::next_length(values.len());
-    let before = script_lines::hash_all(chart, records, values);
-    let verdict = editor::open_as(chart, settings, &mut records[0..r], &mut values[0..v]);
-    let after = script_lines::hash_all(chart, records, values);
+    let r = print_text::next_length(records.len());
+    let v = print_text::next_length(values.len());
+    let before = test_script_lines::hash_all(chart, records, values);
+    let verdict = calls_editor::open_as(chart, settings, &mut records[0..r], &mut values[0..v]);
+    let after = test_script_lines::hash_all(chart, records, values);
     show_verdict(verdict, b"opened\n", before, after);
 }
 
@@ -99,9 +99,9 @@ fn totals(
     d: &mut [f64],
 ) {
     let mut out = [0u8; 512];
-    let answer = figures::totals(chart, values, a, b, c, d);
-    let end = script_lines::put_totals(&mut out[..], 0, answer, a, b, c, d);
-    text::show(&out[..], end);
+    let answer = calls_figures::totals(chart, values, a, b, c, d);
+    let end = test_script_lines::put_totals(&mut out[..], 0, answer, a, b, c, d);
+    print_text::show(&out[..], end);
 }
 
 // Reads the lengths before the call.
@@ -110,11 +110,11 @@ fn read_and_total(chart: &[u8], values: &[f64]) {
     let mut b = [7.5f64; 9216];
     let mut c = [7.5f64; 9216];
     let mut d = [7.5f64; 9216];
-    let v = text::next_length(values.len());
-    let m = text::next_length(9216);
-    let n = text::next_length(9216);
-    let o = text::next_length(9216);
-    let p = text::next_length(9216);
+    let v = print_text::next_length(values.len());
+    let m = print_text::next_length(9216);
+    let n = print_text::next_length(9216);
+    let o = print_text::next_length(9216);
+    let p = print_text::next_length(9216);
     totals(
         chart,
         &values[0..v],
@@ -136,9 +136,9 @@ fn totals_as(
     d: &mut [f64],
 ) {
     let mut out = [0u8; 512];
-    let answer = figures::totals_as(chart, settings, values, a, b, c, d);
-    let end = script_lines::put_totals(&mut out[..], 0, answer, a, b, c, d);
-    text::show(&out[..], end);
+    let answer = calls_figures::totals_as(chart, settings, values, a, b, c, d);
+    let end = test_script_lines::put_totals(&mut out[..], 0, answer, a, b, c, d);
+    print_text::show(&out[..], end);
 }
 
 // Reads the lengths before the call.
@@ -147,11 +147,11 @@ fn read_and_total_as(chart: &[u8], settings: &[u8], values: &[f64]) {
     let mut b = [7.5f64; 9216];
     let mut c = [7.5f64; 9216];
     let mut d = [7.5f64; 9216];
-    let v = text::next_length(values.len());
-    let m = text::next_length(9216);
-    let n = text::next_length(9216);
-    let o = text::next_length(9216);
-    let p = text::next_length(9216);
+    let v = print_text::next_length(values.len());
+    let m = print_text::next_length(9216);
+    let n = print_text::next_length(9216);
+    let o = print_text::next_length(9216);
+    let p = print_text::next_length(9216);
     totals_as(
         chart,
         settings,
@@ -165,59 +165,68 @@ fn read_and_total_as(chart: &[u8], settings: &[u8], values: &[f64]) {
 
 // Readings of the first player's records.
 fn look_at_records(kind: usize, chart: &[u8], records: &[f64]) {
-    let place = text::next_long() as usize;
-    let r = text::next_length(records.len());
+    let place = print_text::next_long() as usize;
+    let r = print_text::next_length(records.len());
     match kind {
-        2 => show_record(place, readings::read_record(chart, &records[0..r], place)),
+        2 => show_record(
+            place,
+            calls_readings::read_record(chart, &records[0..r], place),
+        ),
         11 => show_aim_parts(
             place,
-            readings::read_aim_parts(chart, &records[0..r], place),
+            calls_readings::read_aim_parts(chart, &records[0..r], place),
         ),
-        _ => show_rhythm(place, readings::read_rhythm(chart, &records[0..r], place)),
+        _ => show_rhythm(
+            place,
+            calls_readings::read_rhythm(chart, &records[0..r], place),
+        ),
     }
 }
 
 // Readings of the second player's records.
 fn look_at_records_as(kind: usize, chart: &[u8], settings: &[u8], records: &[f64]) {
-    let place = text::next_long() as usize;
-    let r = text::next_length(records.len());
+    let place = print_text::next_long() as usize;
+    let r = print_text::next_length(records.len());
     match kind {
         2 => show_record(
             place,
-            readings::read_record_as(chart, settings, &records[0..r], place),
+            calls_readings::read_record_as(chart, settings, &records[0..r], place),
         ),
         11 => show_aim_parts(
             place,
-            readings::read_aim_parts_as(chart, settings, &records[0..r], place),
+            calls_readings::read_aim_parts_as(chart, settings, &records[0..r], place),
         ),
         _ => show_rhythm(
             place,
-            readings::read_rhythm_as(chart, settings, &records[0..r], place),
+            calls_readings::read_rhythm_as(chart, settings, &records[0..r], place),
         ),
     }
 }
 
 // The values of a place, for the first player.
 fn look_at_values(chart: &[u8], values: &[f64]) {
-    let place = text::next_long() as usize;
-    let v = text::next_length(values.len());
-    show_values(place, readings::read_values(chart, &values[0..v], place));
+    let place = print_text::next_long() as usize;
+    let v = print_text::next_length(values.len());
+    show_values(
+        place,
+        calls_readings::read_values(chart, &values[0..v], place),
+    );
 }
 
 // The values of a place, for the second player.
 fn look_at_values_as(chart: &[u8], settings: &[u8], values: &[f64]) {
-    let place = text::next_long() as usize;
-    let v = text::next_length(values.len());
+    let place = print_text::next_long() as usize;
+    let v = print_text::next_length(values.len());
     show_values(
         place,
-        readings::read_values_as(chart, settings, &values[0..v], place),
+        calls_readings::read_values_as(chart, settings, &values[0..v], place),
     );
 }
 
 // Reads settings, which the second player's calls bring with them.
 fn set() {
     let mut settings = [0u8; 128];
-    text::read_chart(&mut settings[..]);
+    print_text::read_chart(&mut settings[..]);
     io::write_all(1, b"set\n");
 }
 
@@ -263,9 +272,9 @@ fn carry_out(
     values: &mut [f64],
 ) -> Verdict {
     match kind {
-        1 => editor::replace(chart, place, object, records, values),
-        7 => editor::insert(chart, place, object, records, values),
-        _ => editor::remove(chart, place, records, values),
+        1 => calls_editor::replace(chart, place, object, records, values),
+        7 => calls_editor::insert(chart, place, object, records, values),
+        _ => calls_editor::remove(chart, place, records, values),
     }
 }
 
@@ -278,9 +287,9 @@ fn edit(
     records: &mut [f64],
     values: &mut [f64],
 ) {
-    let r = text::next_length(records.len());
-    let v = text::next_length(values.len());
-    let before = script_lines::hash_all(chart, records, values);
+    let r = print_text::next_length(records.len());
+    let v = print_text::next_length(values.len());
+    let before = test_script_lines::hash_all(chart, records, values);
     let verdict = carry_out(
         kind,
         chart,
@@ -289,7 +298,7 @@ fn edit(
         &mut records[0..r],
         &mut values[0..v],
     );
-    let after = script_lines::hash_all(chart, records, values);
+    let after = test_script_lines::hash_all(chart, records, values);
     show_verdict(verdict, b"accepted\n", before, after);
 }
 
@@ -306,7 +315,7 @@ fn carry_out_both(
     values_2: &mut [f64],
 ) -> Verdict {
     match kind {
-        33 => editor::replace_both(
+        33 => calls_editor::replace_both(
             chart,
             settings,
             place,
@@ -316,7 +325,7 @@ fn carry_out_both(
             records_2,
             values_2,
         ),
-        39 => editor::insert_both(
+        39 => calls_editor::insert_both(
             chart,
             settings,
             place,
@@ -326,7 +335,15 @@ fn carry_out_both(
             records_2,
             values_2,
         ),
-        _ => editor::remove_both(chart, settings, place, records, values, records_2, values_2),
+        _ => calls_editor::remove_both(
+            chart,
+            settings,
+            place,
+            records,
+            values,
+            records_2,
+            values_2,
+        ),
     }
 }
 
@@ -338,8 +355,8 @@ fn hash_both(
     records_2: &[f64],
     values_2: &[f64],
 ) -> u64 {
-    let first = script_lines::hash_all(chart, records, values);
-    script_lines::hash_table(script_lines::hash_table(first, records_2), values_2)
+    let first = test_script_lines::hash_all(chart, records, values);
+    test_script_lines::hash_table(test_script_lines::hash_table(first, records_2), values_2)
 }
 
 // Carries out one edit on both players' tables of the lengths that follow.
@@ -354,10 +371,10 @@ fn edit_both(
     records_2: &mut [f64],
     values_2: &mut [f64],
 ) {
-    let r = text::next_length(records.len());
-    let v = text::next_length(values.len());
-    let r_2 = text::next_length(records_2.len());
-    let v_2 = text::next_length(values_2.len());
+    let r = print_text::next_length(records.len());
+    let v = print_text::next_length(values.len());
+    let r_2 = print_text::next_length(records_2.len());
+    let v_2 = print_text::next_length(values_2.len());
     let before = hash_both(chart, records, values, records_2, values_2);
     let verdict = carry_out_both(
         kind,
@@ -377,8 +394,8 @@ fn edit_both(
 // Reads place and object before an edit for the first player.
 fn read_and_edit(kind: usize, chart: &mut [u8], records: &mut [f64], values: &mut [f64]) {
     let mut object = [0u8; 128];
-    let place = text::next_long() as usize;
-    let n = text::read_chart(&mut object[..]);
+    let place = print_text::next_long() as usize;
+    let n = print_text::read_chart(&mut object[..]);
     if n <= 128 {
         edit(kind, chart, place, &object[0..n], records, values);
     }
@@ -395,9 +412,9 @@ fn read_and_edit_both(
 ) {
     let mut settings = [0u8; 128];
     let mut object = [0u8; 128];
-    let s = text::read_chart(&mut settings[..]);
-    let place = text::next_long() as usize;
-    let n = text::read_chart(&mut object[..]);
+    let s = print_text::read_chart(&mut settings[..]);
+    let place = print_text::next_long() as usize;
+    let n = print_text::read_chart(&mut object[..]);
     if 128 < s {
         return;
     }
@@ -425,7 +442,7 @@ fn read_and_second(
     values: &mut [f64],
 ) {
     let mut settings = [0u8; 128];
-    let s = text::read_chart(&mut settings[..]);
+    let s = print_text::read_chart(&mut settings[..]);
     if s <= 128 {
         second(kind, chart, &settings[0..s], pattern, records, values);
     }
@@ -434,10 +451,10 @@ fn read_and_second(
 // Another hand writes to the chart.
 fn poke(chart: &mut [u8]) {
     let mut bytes = [0u8; 1024];
-    let offset = text::next_word();
-    let n = text::read_chart(&mut bytes[..]);
+    let offset = print_text::next_word();
+    let n = print_text::read_chart(&mut bytes[..]);
     if n <= 1024 {
-        text::put_all(chart, offset, &bytes[0..n]);
+        print_text::put_all(chart, offset, &bytes[0..n]);
         io::write_all(1, b"poked\n");
     }
 }
@@ -493,8 +510,8 @@ fn read_and_call(
     records_2: &mut [f64],
     values_2: &mut [f64],
 ) {
-    let kind = text::next_word();
-    let n = text::next_length(memory.len());
+    let kind = print_text::next_word();
+    let n = print_text::next_length(memory.len());
     call(
         kind,
         &mut memory[0..n],
@@ -515,7 +532,7 @@ fn calls(
     records_2: &mut [f64],
     values_2: &mut [f64],
 ) {
-    let mut left = text::next_length(MOST);
+    let mut left = print_text::next_length(MOST);
     while 0 < left {
         read_and_call(memory, pattern, records, values, records_2, values_2);
         left -= 1;
@@ -531,14 +548,14 @@ fn finish(
     records_2: &[f64],
     values_2: &[f64],
 ) {
-    let lent = text::next_length(memory.len());
+    let lent = print_text::next_length(memory.len());
     show_chart(&memory[0..lent]);
-    let n = text::next_length(script_lines::ENTRIES);
-    let kept = script_lines::kept(pattern, records, values, n)
-        & script_lines::kept(pattern, records_2, values_2, n);
+    let n = print_text::next_length(test_script_lines::ENTRIES);
+    let kept = test_script_lines::kept(pattern, records, values, n)
+        & test_script_lines::kept(pattern, records_2, values_2, n);
     let mut out = [0u8; 512];
-    let end = script_lines::put_kept(&mut out[..], 0, kept);
-    text::show(&out[..], end);
+    let end = test_script_lines::put_kept(&mut out[..], 0, kept);
+    print_text::show(&out[..], end);
 }
 
 // The next script, if there is one, with both players' tables filled with the pattern that comes first.
@@ -550,16 +567,16 @@ fn next_script() -> bool {
     let mut values = [0.0f64; 5120];
     let mut records_2 = [0.0f64; 16384];
     let mut values_2 = [0.0f64; 5120];
-    let n = text::read_chart(&mut memory[..]);
+    let n = print_text::read_chart(&mut memory[..]);
     if 65536 < n {
         return false;
     }
-    script_lines::fill_memory(&mut memory[..], n);
-    text::read_numbers(80, &mut bytes[..], &mut pattern[..]);
-    script_lines::fill(&mut records[..], &pattern[..]);
-    script_lines::fill(&mut values[..], &pattern[..]);
-    script_lines::fill(&mut records_2[..], &pattern[..]);
-    script_lines::fill(&mut values_2[..], &pattern[..]);
+    test_script_lines::fill_memory(&mut memory[..], n);
+    print_text::read_numbers(80, &mut bytes[..], &mut pattern[..]);
+    test_script_lines::fill(&mut records[..], &pattern[..]);
+    test_script_lines::fill(&mut values[..], &pattern[..]);
+    test_script_lines::fill(&mut records_2[..], &pattern[..]);
+    test_script_lines::fill(&mut values_2[..], &pattern[..]);
     calls(
         &mut memory[..],
         &pattern[..],

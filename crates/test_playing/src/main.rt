@@ -42,9 +42,9 @@ fn put_entries(out: &mut [u8], at: usize, n: usize, list: &[f64]) -> usize
     let mut end = at;
     let mut m = 0;
     while m <= n {
-        end = text::show_if_full(out, end);
-        end = text::put_decimal(out, end, m as u64);
-        end = lines::put_skills(out, end, entry_at(list, m));
+        end = print_text::show_if_full(out, end);
+        end = print_text::put_decimal(out, end, m as u64);
+        end = print_lines::put_skills(out, end, entry_at(list, m));
         m += 1;
     }
     end
@@ -67,7 +67,7 @@ fn put_list(
         × (8192 ≤ length (now a)) × (8192 ≤ length (now b)) × (8192 ≤ length (now c)) × (8192 ≤ length (now d)) ⌝ }
 {
     skills_playing::totals_while_playing(chart, lay, clock, values, list, a, b, c, d);
-    let count = lines::put_count(out, 0, lay.n);
+    let count = print_lines::put_count(out, 0, lay.n);
     put_entries(out, count, lay.n, list)
 }
 
@@ -89,9 +89,9 @@ fn put_half(
 {
     let m = lay.n / 2;
     let totals = skills_playing::totals_to(chart, lay, clock, values, m, a, b, c, d);
-    let word = text::put_all(out, at, b"prefix ");
-    let place = text::put_decimal(out, word, m as u64);
-    lines::put_skills(out, place, totals)
+    let word = print_text::put_all(out, at, b"prefix ");
+    let place = print_text::put_decimal(out, word, m as u64);
+    print_lines::put_skills(out, place, totals)
 }
 
 // All lines of a chart with its values.
@@ -112,7 +112,7 @@ fn put_lines(
 {
     let entries = put_list(out, chart, lay, clock, values, list, a, b, c, d);
     let end = put_half(out, entries, chart, lay, clock, values, a, b, c, d);
-    text::show(out, end);
+    print_text::show(out, end);
 }
 
 // The tables of a chart that is ready to be read.
@@ -139,7 +139,7 @@ fn answer(
         × (8192 ≤ length (now a)) × (8192 ≤ length (now b)) × (8192 ≤ length (now c)) × (8192 ≤ length (now d)) ⌝ }
 {
     match chart_opening::check(chart, 1024) {
-        Verdict::Refused(r) => lines::show_refusal(out, r),
+        Verdict::Refused(r) => print_lines::show_refusal(out, r),
         Verdict::Accepted => {
             let lay = chart_opening::layout_of(chart);
             let set = chart_opening::settings_at(chart, 32);
@@ -166,7 +166,7 @@ fn run(
 {
     let mut left = MOST;
     while 0 < left {
-        let n = text::read_chart(chart);
+        let n = print_text::read_chart(chart);
         if n <= chart.len() {
             answer(out, &chart[0..n], t, values, list, a, b, c, d);
             left -= 1;

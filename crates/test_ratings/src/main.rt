@@ -2,10 +2,10 @@
 // the word of mods and a word whose bits 0 and 1 say
 // whether attraction strength and start scale are given (u32), then nine numbers (f64), little-endian. The answers are written as bits.
 ghost use Prim.Native.Nat.{_<_};
-use rating::Mods;
-use rating::OsuRatingCalculator;
 use skills::Skills;
-use star_rating::Asked;
+use skills_rating::Mods;
+use skills_rating::OsuRatingCalculator;
+use skills_stars::Asked;
 
 // The bytes of a question, and questions that are answered at most.
 const SIZE: usize = 88;
@@ -54,12 +54,12 @@ fn one(s: &[u8; 88], kind: u32) -> f64 {
     let mods = mods_of(s, c, number(s, 3));
     let by = calculator(s, mods);
     match kind {
-        1 => rating::cbrt(a),
+        1 => skills_rating::cbrt(a),
         2 => OsuRatingCalculator::calculate_difficulty_rating(a),
-        3 => star_rating::difficulty_to_performance(a),
-        4 => star_rating::flashlight_to_performance(a),
-        5 => star_rating::calculate_star_rating(a, b),
-        6 => star_rating::calculate_mechanical_difficulty_rating(a, b, c),
+        3 => skills_stars::difficulty_to_performance(a),
+        4 => skills_stars::flashlight_to_performance(a),
+        5 => skills_stars::calculate_star_rating(a, b),
+        6 => skills_stars::calculate_mechanical_difficulty_rating(a, b, c),
         7 => OsuRatingCalculator::calculate_aim_visibility_factor(a, b),
         8 => OsuRatingCalculator::calculate_speed_visibility_factor(a, b),
         9 => OsuRatingCalculator::calculate_visibility_bonus(mods, a, b, c),
@@ -71,8 +71,8 @@ fn one(s: &[u8; 88], kind: u32) -> f64 {
 
 // Puts a number's bits and a byte behind them.
 fn put_number(line: &mut [u8], at: usize, x: f64, behind: u8) -> usize {
-    let end = text::put_f64(line, at, x);
-    text::put(line, end, behind)
+    let end = print_text::put_f64(line, at, x);
+    print_text::put(line, end, behind)
 }
 
 // Answers a question for the ratings and the stars.
@@ -90,13 +90,13 @@ fn all(s: &[u8; 88]) {
         speed: number(s, 7),
         flashlight: number(s, 8),
     };
-    let r = star_rating::eval(totals, num_floats::u32_at(s, 4), asked);
+    let r = skills_stars::eval(totals, num_floats::u32_at(s, 4), asked);
     let mut line = [0u8; 128];
     let mut end = put_number(&mut line[..], 0, r.aim, b' ');
     end = put_number(&mut line[..], end, r.speed, b' ');
     end = put_number(&mut line[..], end, r.flashlight, b' ');
     end = put_number(&mut line[..], end, r.stars, b'\n');
-    text::show(&line[..], end);
+    print_text::show(&line[..], end);
 }
 
 // Reads a question and answers it; false at the end of the input.
@@ -111,7 +111,7 @@ fn answer() -> bool {
     } else {
         let mut line = [0u8; 32];
         let end = put_number(&mut line[..], 0, one(&s, kind), b'\n');
-        text::show(&line[..], end);
+        print_text::show(&line[..], end);
     }
     true
 }

@@ -11,14 +11,14 @@ const MOST: usize = 65536;
 fn show_records(out: &mut [u8], t: &[f64], n: usize)
     requires { ⌜ (n ≤ 2048) × (16 * n ≤ length (now t)) ⌝ }
 {
-    let mut end = lines::put_count(out, 0, n);
+    let mut end = print_lines::put_count(out, 0, n);
     let mut j = 1;
     while j < n {
-        end = text::show_if_full(out, end);
-        end = lines::put_record(out, end, j, osu_records::record_at(t, j));
+        end = print_text::show_if_full(out, end);
+        end = print_lines::put_record(out, end, j, osu_records::record_at(t, j));
         j += 1;
     }
-    text::show(out, end);
+    print_text::show(out, end);
 }
 
 // The lines of one chart.
@@ -26,7 +26,7 @@ fn answer(out: &mut [u8], chart: &[u8], t: &mut [f64])
     requires { ⌜ 32768 ≤ length (now t) ⌝ }
 {
     match chart_opening::check(chart, 2048) {
-        Verdict::Refused(r) => lines::show_refusal(out, r),
+        Verdict::Refused(r) => print_lines::show_refusal(out, r),
         Verdict::Accepted => {
             let lay = chart_opening::layout_of(chart);
             let set = chart_opening::settings_at(chart, 32);
@@ -42,7 +42,7 @@ fn run(out: &mut [u8], chart: &mut [u8], t: &mut [f64])
 {
     let mut left = MOST;
     while 0 < left {
-        let n = text::read_chart(chart);
+        let n = print_text::read_chart(chart);
         if n <= chart.len() {
             answer(out, &chart[0..n], t);
             left -= 1;

@@ -10,22 +10,22 @@ const MOST: usize = 65536;
 // The line of an answer.
 fn put_verdict(out: &mut [u8], v: Verdict) -> usize {
     match v {
-        Verdict::Accepted => text::put_all(out, 0, b"accepted\n"),
-        Verdict::Refused(r) => lines::put_refusal(out, 0, r),
+        Verdict::Accepted => print_text::put_all(out, 0, b"accepted\n"),
+        Verdict::Refused(r) => print_lines::put_refusal(out, 0, r),
     }
 }
 
 // One call.
 fn call(out: &mut [u8], chart: &mut [u8], object: &mut [u8]) {
-    let place = text::next_long() as usize;
-    let entries = text::next_word();
-    let n = text::read_chart(object);
+    let place = print_text::next_long() as usize;
+    let entries = print_text::next_word();
+    let n = print_text::read_chart(object);
     if object.len() < n {
         return;
     }
     let verdict = chart_replacing::replace(chart, place, &object[0..n], entries);
     let end = put_verdict(out, verdict);
-    text::show(out, end);
+    print_text::show(out, end);
 }
 
 // A byte as a larger number.
@@ -50,15 +50,15 @@ fn checksum(s: &[u8]) -> u32 {
 
 // Writes the line of a chart's checksum.
 fn show_checksum(out: &mut [u8], chart: &[u8]) {
-    let word = text::put_all(out, 0, b"chart ");
-    let end = text::put_hex32(out, word, checksum(chart));
-    let stop = text::put(out, end, b'\n');
-    text::show(out, stop);
+    let word = print_text::put_all(out, 0, b"chart ");
+    let end = print_text::put_hex32(out, word, checksum(chart));
+    let stop = print_text::put(out, end, b'\n');
+    print_text::show(out, stop);
 }
 
 // All calls on a chart.
 fn calls(out: &mut [u8], chart: &mut [u8], object: &mut [u8]) {
-    let mut left = text::next_length(MOST);
+    let mut left = print_text::next_length(MOST);
     while 0 < left {
         call(out, chart, object);
         left -= 1;
@@ -70,7 +70,7 @@ fn calls(out: &mut [u8], chart: &mut [u8], object: &mut [u8]) {
 fn run(out: &mut [u8], chart: &mut [u8], object: &mut [u8]) {
     let mut left = MOST;
     while 0 < left {
-        let n = text::read_chart(chart);
+        let n = print_text::read_chart(chart);
         if n <= chart.len() {
             calls(out, &mut chart[0..n], object);
             left -= 1;

@@ -3,8 +3,8 @@
 // island was compared, and the largest of these counts; of any other the refusal.
 ghost use Prim.Native.Nat.{_≤_};
 ghost use lib.ListN.{length};
+use calls_readings::RhythmAnswer;
 use chart_opening::Verdict;
-use readings::RhythmAnswer;
 
 // Charts that are read at most.
 const MOST: usize = 65536;
@@ -17,8 +17,8 @@ fn larger(a: usize, b: usize) -> usize {
 // The line of place j.
 fn put_place(out: &mut [u8], at: usize, j: usize, r: RhythmAnswer) -> usize {
     match r {
-        RhythmAnswer::Refused(x) => lines::put_refusal(out, at, x),
-        RhythmAnswer::Rhythm(c) => lines::put_rhythm(out, at, j, c),
+        RhythmAnswer::Refused(x) => print_lines::put_refusal(out, at, x),
+        RhythmAnswer::Rhythm(c) => print_lines::put_rhythm(out, at, j, c),
     }
 }
 
@@ -32,25 +32,25 @@ fn compared(r: RhythmAnswer) -> usize {
 
 // The line of the largest count.
 fn put_most(out: &mut [u8], at: usize, most: usize) -> usize {
-    let word = text::put_all(out, at, b"most ");
-    let count = text::put_decimal(out, word, most as u64);
-    text::put(out, count, b'\n')
+    let word = print_text::put_all(out, at, b"most ");
+    let count = print_text::put_decimal(out, word, most as u64);
+    print_text::put(out, count, b'\n')
 }
 
 // All lines of a chart with its records, written.
 fn show_places(out: &mut [u8], chart: &[u8], n: usize, t: &[f64]) {
-    let mut end = lines::put_count(out, 0, n);
+    let mut end = print_lines::put_count(out, 0, n);
     let mut most: usize = 0;
     let mut j = 1;
     while j < n {
-        let r = readings::read_rhythm(chart, t, j);
-        end = text::show_if_full(out, end);
+        let r = calls_readings::read_rhythm(chart, t, j);
+        end = print_text::show_if_full(out, end);
         end = put_place(out, end, j, r);
         most = larger(most, compared(r));
         j += 1;
     }
     end = put_most(out, end, most);
-    text::show(out, end);
+    print_text::show(out, end);
 }
 
 // The lines of one chart.
@@ -58,7 +58,7 @@ fn answer(out: &mut [u8], chart: &[u8], t: &mut [f64])
     requires { ⌜ 16384 ≤ length (now t) ⌝ }
 {
     match chart_opening::check(chart, 1024) {
-        Verdict::Refused(r) => lines::show_refusal(out, r),
+        Verdict::Refused(r) => print_lines::show_refusal(out, r),
         Verdict::Accepted => {
             let lay = chart_opening::layout_of(chart);
             let set = chart_opening::settings_at(chart, 32);
@@ -74,7 +74,7 @@ fn run(out: &mut [u8], chart: &mut [u8], t: &mut [f64])
 {
     let mut left = MOST;
     while 0 < left {
-        let n = text::read_chart(chart);
+        let n = print_text::read_chart(chart);
         if n <= chart.len() {
             answer(out, &chart[0..n], t);
             left -= 1;

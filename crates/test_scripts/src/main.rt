@@ -22,12 +22,12 @@ const MOST: usize = 65536;
 
 // Opens the chart into tables of the lengths that follow, and puts the answer's line.
 fn open(out: &mut [u8], at: usize, chart: &[u8], records: &mut [f64], values: &mut [f64]) -> usize {
-    let r = text::next_length(records.len());
-    let v = text::next_length(values.len());
-    let before = script_lines::hash_all(chart, records, values);
-    let verdict = editor::open(chart, &mut records[0..r], &mut values[0..v]);
-    let after = script_lines::hash_all(chart, records, values);
-    script_lines::put_verdict(out, at, verdict, b"opened\n", before, after)
+    let r = print_text::next_length(records.len());
+    let v = print_text::next_length(values.len());
+    let before = test_script_lines::hash_all(chart, records, values);
+    let verdict = calls_editor::open(chart, &mut records[0..r], &mut values[0..v]);
+    let after = test_script_lines::hash_all(chart, records, values);
+    test_script_lines::put_verdict(out, at, verdict, b"opened\n", before, after)
 }
 
 // An edit, by its kind.
@@ -40,9 +40,9 @@ fn carry_out(
     values: &mut [f64],
 ) -> Verdict {
     match kind {
-        1 => editor::replace(chart, place, object, records, values),
-        7 => editor::insert(chart, place, object, records, values),
-        _ => editor::remove(chart, place, records, values),
+        1 => calls_editor::replace(chart, place, object, records, values),
+        7 => calls_editor::insert(chart, place, object, records, values),
+        _ => calls_editor::remove(chart, place, records, values),
     }
 }
 
@@ -57,9 +57,9 @@ fn edit(
     records: &mut [f64],
     values: &mut [f64],
 ) -> usize {
-    let r = text::next_length(records.len());
-    let v = text::next_length(values.len());
-    let before = script_lines::hash_all(chart, records, values);
+    let r = print_text::next_length(records.len());
+    let v = print_text::next_length(values.len());
+    let before = test_script_lines::hash_all(chart, records, values);
     let verdict = carry_out(
         kind,
         chart,
@@ -68,8 +68,8 @@ fn edit(
         &mut records[0..r],
         &mut values[0..v],
     );
-    let after = script_lines::hash_all(chart, records, values);
-    script_lines::put_verdict(out, at, verdict, b"accepted\n", before, after)
+    let after = test_script_lines::hash_all(chart, records, values);
+    test_script_lines::put_verdict(out, at, verdict, b"accepted\n", before, after)
 }
 
 // Reads the place and the object before the call.
@@ -82,8 +82,8 @@ fn read_and_edit(
     records: &mut [f64],
     values: &mut [f64],
 ) -> usize {
-    let place = text::next_long() as usize;
-    let n = text::read_chart(object);
+    let place = print_text::next_long() as usize;
+    let n = print_text::read_chart(object);
     if object.len() < n {
         return at;
     }
@@ -92,41 +92,41 @@ fn read_and_edit(
 
 // Reads a record, and puts its line.
 fn record(out: &mut [u8], at: usize, chart: &[u8], records: &[f64]) -> usize {
-    let place = text::next_long() as usize;
-    let r = text::next_length(records.len());
-    let answer = readings::read_record(chart, &records[0..r], place);
-    script_lines::put_record(out, at, place, answer)
+    let place = print_text::next_long() as usize;
+    let r = print_text::next_length(records.len());
+    let answer = calls_readings::read_record(chart, &records[0..r], place);
+    test_script_lines::put_record(out, at, place, answer)
 }
 
 // Reads a place's values, and puts their line.
 fn value(out: &mut [u8], at: usize, chart: &[u8], values: &[f64]) -> usize {
-    let place = text::next_long() as usize;
-    let v = text::next_length(values.len());
-    let answer = readings::read_values(chart, &values[0..v], place);
-    script_lines::put_values(out, at, place, answer)
+    let place = print_text::next_long() as usize;
+    let v = print_text::next_length(values.len());
+    let answer = calls_readings::read_values(chart, &values[0..v], place);
+    test_script_lines::put_values(out, at, place, answer)
 }
 
 // Reads aim with its parts and puts the answer's line.
 fn parts(out: &mut [u8], at: usize, chart: &[u8], records: &[f64]) -> usize {
-    let place = text::next_long() as usize;
-    let r = text::next_length(records.len());
-    let answer = readings::read_aim_parts(chart, &records[0..r], place);
-    script_lines::put_aim_parts(out, at, place, answer)
+    let place = print_text::next_long() as usize;
+    let r = print_text::next_length(records.len());
+    let answer = calls_readings::read_aim_parts(chart, &records[0..r], place);
+    test_script_lines::put_aim_parts(out, at, place, answer)
 }
 
 // Reads a rhythm value with its comparisons and puts the answer's line.
 fn rhythm(out: &mut [u8], at: usize, chart: &[u8], records: &[f64]) -> usize {
-    let place = text::next_long() as usize;
-    let r = text::next_length(records.len());
-    let answer = readings::read_rhythm(chart, &records[0..r], place);
-    script_lines::put_rhythm(out, at, place, answer)
+    let place = print_text::next_long() as usize;
+    let r = print_text::next_length(records.len());
+    let answer = calls_readings::read_rhythm(chart, &records[0..r], place);
+    test_script_lines::put_rhythm(out, at, place, answer)
 }
 
 // Fills scratch with the mark of what is not used.
 fn mark(scratch: &mut [f64]) {
     let mut i = 0;
     while i < scratch.len() {
-        scratch[i] = script_lines::UNUSED;
+        scratch[i] = test_script_lines::UNUSED;
         i += 1;
     }
 }
@@ -150,8 +150,8 @@ fn totals(
     c: &mut [f64],
     d: &mut [f64],
 ) -> usize {
-    let answer = figures::totals(chart, values, a, b, c, d);
-    script_lines::put_totals(out, at, answer, a, b, c, d)
+    let answer = calls_figures::totals(chart, values, a, b, c, d);
+    test_script_lines::put_totals(out, at, answer, a, b, c, d)
 }
 
 // Reads the lengths before the call.
@@ -165,11 +165,11 @@ fn read_and_total(
     c: &mut [f64],
     d: &mut [f64],
 ) -> usize {
-    let v = text::next_length(values.len());
-    let m = text::next_length(a.len());
-    let n = text::next_length(b.len());
-    let o = text::next_length(c.len());
-    let p = text::next_length(d.len());
+    let v = print_text::next_length(values.len());
+    let m = print_text::next_length(a.len());
+    let n = print_text::next_length(b.len());
+    let o = print_text::next_length(c.len());
+    let p = print_text::next_length(d.len());
     totals(
         out,
         at,
@@ -184,13 +184,13 @@ fn read_and_total(
 
 // Another hand writes to the chart.
 fn poke(out: &mut [u8], at: usize, chart: &mut [u8], bytes: &mut [u8]) -> usize {
-    let offset = text::next_word();
-    let n = text::read_chart(bytes);
+    let offset = print_text::next_word();
+    let n = print_text::read_chart(bytes);
     if bytes.len() < n {
         return at;
     }
-    text::put_all(chart, offset, &bytes[0..n]);
-    text::put_all(out, at, b"poked\n")
+    print_text::put_all(chart, offset, &bytes[0..n]);
+    print_text::put_all(out, at, b"poked\n")
 }
 
 // One call that leaves the tables alone.
@@ -214,11 +214,11 @@ fn look(
             mark_all(a, b, c, d);
             read_and_total(out, at, chart, values, a, b, c, d)
         }
-        9 => script_lines::put_lent(out, at, chart.len()),
-        10 => script_lines::next_entry(out, at, pattern, records, values),
+        9 => test_script_lines::put_lent(out, at, chart.len()),
+        10 => test_script_lines::next_entry(out, at, pattern, records, values),
         11 => parts(out, at, chart, records),
         12 => rhythm(out, at, chart, records),
-        _ => script_lines::put_chart(out, at, chart),
+        _ => test_script_lines::put_chart(out, at, chart),
     }
 }
 
@@ -261,8 +261,8 @@ fn read_and_call(
     c: &mut [f64],
     d: &mut [f64],
 ) -> usize {
-    let kind = text::next_word();
-    let n = text::next_length(memory.len());
+    let kind = print_text::next_word();
+    let n = print_text::next_length(memory.len());
     call(
         out,
         at,
@@ -292,10 +292,10 @@ fn calls(
     c: &mut [f64],
     d: &mut [f64],
 ) -> usize {
-    let mut left = text::next_length(MOST);
+    let mut left = print_text::next_length(MOST);
     let mut end = 0;
     while 0 < left {
-        end = text::show_if_full(out, end);
+        end = print_text::show_if_full(out, end);
         end = read_and_call(
             out,
             end,
@@ -323,10 +323,10 @@ fn prepare(
     records: &mut [f64],
     values: &mut [f64],
 ) {
-    script_lines::fill_memory(memory, n);
-    text::read_numbers(80, object, pattern);
-    script_lines::fill(records, pattern);
-    script_lines::fill(values, pattern);
+    test_script_lines::fill_memory(memory, n);
+    print_text::read_numbers(80, object, pattern);
+    test_script_lines::fill(records, pattern);
+    test_script_lines::fill(values, pattern);
 }
 
 // The last lines of a script.
@@ -338,12 +338,12 @@ fn finish(
     records: &[f64],
     values: &[f64],
 ) {
-    let lent = text::next_length(memory.len());
-    let line = script_lines::put_chart(out, at, &memory[0..lent]);
-    let n = text::next_length(script_lines::ENTRIES);
-    let kept = script_lines::kept(pattern, records, values, n);
-    let end = script_lines::put_kept(out, line, kept);
-    text::show(out, end);
+    let lent = print_text::next_length(memory.len());
+    let line = test_script_lines::put_chart(out, at, &memory[0..lent]);
+    let n = print_text::next_length(test_script_lines::ENTRIES);
+    let kept = test_script_lines::kept(pattern, records, values, n);
+    let end = test_script_lines::put_kept(out, line, kept);
+    print_text::show(out, end);
 }
 
 // One script on its chart of n bytes.
@@ -380,7 +380,7 @@ fn run(
 ) {
     let mut left = MOST;
     while 0 < left {
-        let n = text::read_chart(memory);
+        let n = print_text::read_chart(memory);
         if n <= memory.len() {
             script(out, memory, n, object, pattern, records, values, a, b, c, d);
             left -= 1;

@@ -32,13 +32,13 @@ fn put_places(
     let mut end = at;
     let mut j = 1;
     while j < n {
-        end = text::show_if_full(out, end);
-        end = text::put_decimal(out, end, j as u64);
+        end = print_text::show_if_full(out, end);
+        end = print_text::put_decimal(out, end, j as u64);
         let aim = number_at(a, j);
         let aim_no_sliders = number_at(b, j);
         let speed = number_at(c, j);
         let flashlight = number_at(d, j);
-        end = lines::put_skills(
+        end = print_lines::put_skills(
             out,
             end,
             Skills {
@@ -90,7 +90,7 @@ fn put_totals(
         × (8192 ≤ length (now a)) × (8192 ≤ length (now b)) × (8192 ≤ length (now c)) × (8192 ≤ length (now d)) ⌝ }
 {
     let totals = skills::totals(chart, lay, clock, values, a, b, c, d);
-    lines::put_totals(out, at, totals)
+    print_lines::put_totals(out, at, totals)
 }
 
 // The number of objects and the lines of all places. The scratch holds the strains.
@@ -109,7 +109,7 @@ fn put_strains(
         × (8192 ≤ length (now a)) × (8192 ≤ length (now b)) × (8192 ≤ length (now c)) × (8192 ≤ length (now d)) ⌝ }
 {
     fill_strains(chart, lay, clock, values, a, b, c, d);
-    let count = lines::put_count(out, 0, lay.n);
+    let count = print_lines::put_count(out, 0, lay.n);
     put_places(out, count, lay.n, a, b, c, d)
 }
 
@@ -130,7 +130,7 @@ fn list(
 {
     let places = put_strains(out, chart, lay, clock, values, a, b, c, d);
     let end = put_totals(out, places, chart, lay, clock, values, a, b, c, d);
-    text::show(out, end);
+    print_text::show(out, end);
 }
 
 // The tables of a chart that is ready to be read.
@@ -156,7 +156,7 @@ fn answer(
         × (8192 ≤ length (now a)) × (8192 ≤ length (now b)) × (8192 ≤ length (now c)) × (8192 ≤ length (now d)) ⌝ }
 {
     match chart_opening::check(chart, 1024) {
-        Verdict::Refused(r) => lines::show_refusal(out, r),
+        Verdict::Refused(r) => print_lines::show_refusal(out, r),
         Verdict::Accepted => {
             let lay = chart_opening::layout_of(chart);
             let set = chart_opening::settings_at(chart, 32);
@@ -182,7 +182,7 @@ fn run(
 {
     let mut left = MOST;
     while 0 < left {
-        let n = text::read_chart(chart);
+        let n = print_text::read_chart(chart);
         if n <= chart.len() {
             answer(out, &chart[0..n], t, values, a, b, c, d);
             left -= 1;

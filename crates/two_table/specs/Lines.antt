@@ -1,7 +1,7 @@
 -- The table of Two as text. Definitions only.
 use Prim.Native.Nat.{ℕ, zero, suc}
 use mathlib.Core.List.{List, [], _++_}
-use Rattle.text.specs.Text.{ascii, decimalText, hexText}
+use Rattle.print_text.specs.Text.{ascii, decimalText, hexText}
 use Rattle.num_elementary.specs.Two.{twoRoot}
 
 -- "each j in decimal, a space and T(j) in hex as floats are shown": sixteen digits

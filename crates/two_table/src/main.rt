@@ -1,15 +1,15 @@
 // Prints the table of Two: forty lines, each j in decimal, a space and T(j) as sixteen hex digits. The entries are worked out, not read from the constant.
-ghost use Rattle.text.specs.Buffer.{Puts};
+ghost use Rattle.print_text.specs.Buffer.{Puts};
 ghost use Rattle.two_table.specs.Lines.{rootText, tableText};
 
 // j and T(j) = t.
 fn put_root(out: &mut [u8], at: usize, j: u64, t: u64) -> usize
     ensures { λ r. ⌜ Puts (rootText j t) (now (out .entry)) at (now (out .exit)) r ⌝ }
 {
-    let number = text::put_decimal(out, at, j);
-    let space = text::put(out, number, b' ');
-    let digits = text::put_hex64(out, space, t);
-    text::put(out, digits, b'\n')
+    let number = print_text::put_decimal(out, at, j);
+    let space = print_text::put(out, number, b' ');
+    let digits = print_text::put_hex64(out, space, t);
+    print_text::put(out, digits, b'\n')
 }
 
 // The lines of T(1) to T(40).
@@ -29,5 +29,5 @@ fn put_table(out: &mut [u8]) -> usize
 fn main() {
     let mut out = [0u8; 1024];
     let end = put_table(&mut out[..]);
-    text::show(&out[..], end);
+    print_text::show(&out[..], end);
 }

@@ -1,5 +1,5 @@
 -- `lister::list` meets its contract: 65,536 bytes are enough for every listing. Assumes nothing.
-use Rattle.listing.proofs.Room.{listed}
+use Rattle.print_listing.proofs.Room.{listed}
 use borrow.Author.Needs.{needs}
 use Rattle.lister.proofs.list.Statement.{statement}
 use Rattle.lister.proofs.list.Tie as tie

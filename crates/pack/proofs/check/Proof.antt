@@ -8,7 +8,7 @@ use Rattle.pack.proofs.check.Tie as tie
 use Rattle.pack.proofs.check_all.Reads as check-all-reads
 use Rattle.pack.proofs.entries_in.Reads as entries-in-reads
 use Rattle.pack.proofs.scratch_short.Reads as scratch-short-reads
-use Rattle.star_rating.proofs.Asked.is_finite.Reads as is-finite-reads
+use Rattle.skills_stars.proofs.Asked.is_finite.Reads as is-finite-reads
 
 -- src/lib.rt:316:9
 returns : tie.Need-returns

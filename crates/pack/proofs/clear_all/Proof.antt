@@ -1,7 +1,7 @@
 -- `pack::clear_all` meets its contract. Assumes nothing.
 use borrow.Author.Needs.{needs}
 use Rattle.calls.specs.Calls.{cleared}
-use Rattle.figures.specs.Answers.{scratchOf}
+use Rattle.calls_figures.specs.Answers.{scratchOf}
 use Rattle.pack.proofs.clear_all.Statement.{statement}
 use Rattle.pack.proofs.clear_all.Tie as tie
 

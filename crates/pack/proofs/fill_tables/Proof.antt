@@ -7,8 +7,8 @@ use Rattle.osu_records.specs.Fill.{filled}
 use Rattle.chart_opening.specs.Header.{settingsOf}
 use Rattle.eval_values.specs.Values.{valuesIn}
 use Rattle.calls.specs.Calls.{opened, openRecords}
-use Rattle.editor.proofs.Outcomes.{records-opened, values-opened}
-use Rattle.editor.proofs.Fits.{fits}
+use Rattle.calls_editor.proofs.Outcomes.{records-opened, values-opened}
+use Rattle.calls_editor.proofs.Fits.{fits}
 use Rattle.pack.specs.Pack.{openedInto, tables}
 use borrow.Author.Needs.{needs}
 use Rattle.pack.proofs.fill_tables.Statement.{statement}

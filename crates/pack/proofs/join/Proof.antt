@@ -1,7 +1,7 @@
 -- `pack::join` meets its contract. Assumes nothing.
 use borrow.Author.Needs.{needs}
 use mathlib.Core.Path.{refl, sym, _∙_}
-use Rattle.figures.specs.Answers.{scratchOf}
+use Rattle.calls_figures.specs.Answers.{scratchOf}
 use Rattle.pack.specs.Pack.{rankAnswer, tables}
 use Rattle.pack.proofs.Lists.{refused-leaves, carried-leaves}
 use Rattle.pack.proofs.join.Statement.{statement}

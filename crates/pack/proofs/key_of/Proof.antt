@@ -3,7 +3,7 @@ use borrow.Author.Needs.{needs}
 use mathlib.Core.Path.{_∙_}
 use native.Mathlib.Omega.{arith}
 use Rattle.skills.specs.Chart.{totalsOf}
-use Rattle.star_rating.specs.Stars.{ratingsOf}
+use Rattle.skills_stars.specs.Stars.{ratingsOf}
 use Rattle.pack.specs.Pack.{keyFrom}
 use Rattle.pack.proofs.key_of.Statement.{statement}
 use Rattle.pack.proofs.key_of.Tie as tie

@@ -2,7 +2,7 @@
 use borrow.Author.Needs.{needs}
 use mathlib.Core.Path.{_∙_}
 use native.Mathlib.Omega.{arith}
-use Rattle.figures.specs.Answers.{scratchOf}
+use Rattle.calls_figures.specs.Answers.{scratchOf}
 use Rattle.pack.specs.Pack.{tables}
 use Rattle.pack.proofs.Lists.{few, all-pass, sortable, listing, all-listed}
 use Rattle.pack.proofs.list_all.Statement.{statement}

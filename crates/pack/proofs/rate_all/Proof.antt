@@ -5,7 +5,7 @@ use lib.ListN.{length, getD}
 use Prim.Native.Nat.{_-_}
 use native.Mathlib.Omega.{arith}
 use Rattle.calls.specs.Conditions.{lengths}
-use Rattle.figures.specs.Answers.{scratchOf}
+use Rattle.calls_figures.specs.Answers.{scratchOf}
 use Rattle.pack.specs.Pack.{listedVerdict, tables}
 use Rattle.pack.proofs.Checks.{each}
 use Rattle.pack.proofs.Rated.{Rating, start, next, end}

@@ -4,7 +4,7 @@ use mathlib.Core.Path.{ap, _∙_}
 use native.Mathlib.Omega.{arith}
 use Rattle.chart_opening.specs.Header.{layoutOf, settingsOf}
 use Rattle.skills.specs.Chart.{totalsOf}
-use Rattle.editor.proofs.Fits.{fits}
+use Rattle.calls_editor.proofs.Fits.{fits}
 use Rattle.pack.specs.Pack.{keyRow, keyFrom, tables}
 use Rattle.pack.proofs.Checks.{rateable}
 use Rattle.pack.proofs.Rated.{key-fresh}

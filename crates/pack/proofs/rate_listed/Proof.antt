@@ -6,7 +6,7 @@ use Prim.Native.Nat.{ℕ}
 use lib.ListN.{length}
 use Rattle.chart_opening.specs.declared.Verdict.the-variants.{Accepted}
 use Rattle.calls.specs.Conditions.{lengths}
-use Rattle.figures.specs.Answers.{scratchOf}
+use Rattle.calls_figures.specs.Answers.{scratchOf}
 use Rattle.pack.specs.Pack.{keyOf, chartVerdict, openedInto, tables}
 use Rattle.pack.proofs.Checks.{lies}
 use Rattle.pack.proofs.Rated.{part-chart, part-end}

@@ -3,7 +3,7 @@ use borrow.Author.Needs.{needs}
 use mathlib.Core.Path.{refl, sym, ap, _∙_}
 use lib.Dec.{ltb}
 use lib.ListN.{length}
-use Rattle.figures.specs.Answers.{scratchOf}
+use Rattle.calls_figures.specs.Answers.{scratchOf}
 use Rattle.pack.specs.Pack.{tables, buffers}
 use Rattle.station.specs.Codes.{verdictCode, numbersWidth, rankVerdictInto, rankInto}
 use Rattle.station.proofs.difficulty_join.Statement.{statement}

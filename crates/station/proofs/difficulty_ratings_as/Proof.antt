@@ -4,7 +4,7 @@ use mathlib.Core.List.{[]}
 use Rattle.num_tables.specs.Parts.{put}
 use Rattle.calls.specs.Afresh.{ratings}
 use Rattle.calls.specs.Calls.{Answer, Outcome, state}
-use Rattle.figures.specs.Answers.{ratingsAnswer, scratchOf}
+use Rattle.calls_figures.specs.Answers.{ratingsAnswer, scratchOf}
 use Rattle.station.specs.Codes.{answerCode, numbersOf, figureIntoAs, scratchIntoAs, askedOf}
 use Rattle.station.proofs.Rooms.{put-none, figure-room, ratings-room}
 use borrow.Author.Needs.{needs}

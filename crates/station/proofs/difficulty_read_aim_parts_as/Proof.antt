@@ -3,7 +3,7 @@ use mathlib.Core.Path.{refl, sym, ap, _∙_}
 use lib.ListN.{length}
 use Rattle.num_tables.specs.Parts.{put}
 use Rattle.calls.specs.Calls.{Answer, Outcome}
-use Rattle.readings.specs.Answers.{aimAnswer}
+use Rattle.calls_readings.specs.Answers.{aimAnswer}
 use Rattle.station.specs.Codes.{aimWidth, answerCode, numbersOf}
 use Rattle.station.proofs.Rooms.{put-none, into-room-as, no-detail}
 use borrow.Author.Needs.{needs}

@@ -5,7 +5,7 @@ use lib.ListN.{length, length-set}
 use Rattle.num_tables.specs.Parts.{put}
 use Rattle.num_tables.specs.Rows.{sets-put}
 use Rattle.calls.specs.Calls.{Answer, Outcome}
-use Rattle.readings.specs.Answers.{rhythmAnswer}
+use Rattle.calls_readings.specs.Answers.{rhythmAnswer}
 use Rattle.station.specs.Codes.{rhythmWidth, answerCode, numbersOf}
 use Rattle.station.proofs.Rooms.{put-none, into-room-as, no-detail, few-compared}
 use borrow.Author.Needs.{needs}

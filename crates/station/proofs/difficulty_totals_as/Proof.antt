@@ -5,7 +5,7 @@ use Rattle.num_tables.specs.Parts.{put}
 use mathlib.Core.Path.{refl}
 use Rattle.calls.specs.Afresh.{totals}
 use Rattle.calls.specs.Calls.{Answer, Outcome}
-use Rattle.figures.specs.Answers.{totalsAnswer, scratchOf}
+use Rattle.calls_figures.specs.Answers.{totalsAnswer, scratchOf}
 use Rattle.station.specs.Codes.{answerCode, numbersOf}
 use Rattle.station.proofs.Rooms.{put-none, figure-room}
 use borrow.Author.Needs.{needs}

@@ -9,7 +9,7 @@ use Rattle.calls.specs.Tables.{totalsWidth}
 use Rattle.calls.specs.Afresh.{playing}
 use Rattle.calls.specs.Conditions.{lengths, figure}
 use Rattle.calls.specs.Calls.{listAfter}
-use Rattle.figures.specs.Answers.{scratchOf}
+use Rattle.calls_figures.specs.Answers.{scratchOf}
 use Rattle.calls_players.specs.Statement.{Reads}
 use Rattle.calls_players.proofs.Own.{verdict-short, outcome-short, scratch-short, own-verdict, own-outcome, own-scratch}
 use Rattle.station.specs.Codes.{verdictCode}

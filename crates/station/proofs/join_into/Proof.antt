@@ -1,7 +1,7 @@
 -- `station::join_into` meets its contract. Assumes nothing.
 use borrow.Author.Needs.{needs}
 use mathlib.Core.Path.{_∙_}
-use Rattle.figures.specs.Answers.{scratchOf}
+use Rattle.calls_figures.specs.Answers.{scratchOf}
 use Rattle.pack.specs.Pack.{tables, buffers}
 use Rattle.station.proofs.Ranks.{too-few, enough, enough-leaves}
 use Rattle.station.proofs.join_into.Statement.{statement}

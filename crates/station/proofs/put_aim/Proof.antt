@@ -3,7 +3,7 @@ use denote.Ref.{now}
 use lib.ListN.{length-set}
 use native.Mathlib.Omega.{arith}
 use Rattle.num_tables.specs.Rows.{sets-put}
-use Rattle.readings.specs.Answers.{aimFinding}
+use Rattle.calls_readings.specs.Answers.{aimFinding}
 use Rattle.station.specs.Codes.{findingRow}
 use borrow.Author.Needs.{needs}
 use Rattle.station.proofs.put_aim.Statement.{statement}

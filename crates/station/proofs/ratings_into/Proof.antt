@@ -1,7 +1,7 @@
 -- `station::ratings_into` meets its contract. Assumes nothing.
 use mathlib.Core.Path.{sym, _∙_}
 use Rattle.calls.specs.Afresh.{ratings}
-use Rattle.figures.specs.Answers.{scratchOf}
+use Rattle.calls_figures.specs.Answers.{scratchOf}
 use Rattle.station.proofs.Rooms.{figure-short, figure-long}
 use borrow.Author.Needs.{needs}
 use Rattle.station.proofs.ratings_into.Statement.{statement}

@@ -1,7 +1,7 @@
 -- `station::refuse_sums` meets its contract. Assumes nothing.
 use mathlib.Core.Path.{sym, _∙_}
 use mathlib.Core.Bool.{true}
-use Rattle.figures.proofs.Outcomes.{sums-refused, sums-passed}
+use Rattle.calls_figures.proofs.Outcomes.{sums-refused, sums-passed}
 use borrow.Author.Needs.{needs}
 use Rattle.station.proofs.refuse_sums.Statement.{statement}
 use Rattle.station.proofs.refuse_sums.Tie as tie

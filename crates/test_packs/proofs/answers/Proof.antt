@@ -6,7 +6,7 @@ use Rattle.test_packs.proofs.answers.Statement.{statement}
 use Rattle.test_packs.proofs.answers.Tie as tie
 use Rattle.test_packs.proofs.answer.Reads as answer-reads
 use Rattle.test_packs.proofs.mark.Reads as mark-reads
-use Rattle.text.proofs.next_length.Reads as next-length-reads
+use Rattle.print_text.proofs.next_length.Reads as next-length-reads
 
 abbrev Inv-loop : tie.InvT-loop
 Inv-loop out₀ pack list₀ records₀ values₀ a₀ b₀ c₀ d₀ left₀ out list records values a b c d left = (length out ≡ length out₀) × (length list ≡ length list₀) × (length records ≡ length records₀) × (length values ≡ length values₀) × (length a ≡ length a₀) × (length b ≡ length b₀) × (length c ≡ length c₀) × (length d ≡ length d₀)

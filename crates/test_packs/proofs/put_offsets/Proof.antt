@@ -6,8 +6,8 @@ use borrow.Author.Needs.{needs}
 use Rattle.test_packs.proofs.put_offsets.Statement.{statement}
 use Rattle.test_packs.proofs.put_offsets.Tie as tie
 use Rattle.test_packs.proofs.wide.Reads as wide-reads
-use Rattle.text.proofs.put.Reads as put-reads
-use Rattle.text.proofs.put_decimal.Reads as put-decimal-reads
+use Rattle.print_text.proofs.put.Reads as put-reads
+use Rattle.print_text.proofs.put_decimal.Reads as put-decimal-reads
 
 abbrev Inv-loop : tie.InvT-loop
 Inv-loop out₀ at list end₀ i₀ out end i = length out ≡ length out₀

@@ -5,8 +5,8 @@ use Prim.Native.Nat.{_-_, _≤_}
 use borrow.Author.Needs.{needs}
 use Rattle.test_packs.proofs.read_offsets.Statement.{statement}
 use Rattle.test_packs.proofs.read_offsets.Tie as tie
-use Rattle.text.proofs.next_length.Reads as next-length-reads
-use Rattle.text.proofs.next_long.Reads as next-long-reads
+use Rattle.print_text.proofs.next_length.Reads as next-length-reads
+use Rattle.print_text.proofs.next_long.Reads as next-long-reads
 
 abbrev Inv-loop : tie.InvT-loop
 Inv-loop list₀ n i₀ list i = (length list ≡ length list₀) × (n ≤ length list₀)

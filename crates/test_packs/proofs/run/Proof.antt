@@ -5,7 +5,7 @@ use borrow.Author.Needs.{needs}
 use Rattle.test_packs.proofs.run.Statement.{statement}
 use Rattle.test_packs.proofs.run.Tie as tie
 use Rattle.test_packs.proofs.answers.Reads as answers-reads
-use Rattle.text.proofs.read_chart.Reads as read-chart-reads
+use Rattle.print_text.proofs.read_chart.Reads as read-chart-reads
 
 abbrev Inv-loop : tie.InvT-loop
 Inv-loop out₀ pack₀ list₀ records₀ values₀ a₀ b₀ c₀ d₀ left₀ out pack list records values a b c d left = (length out ≡ length out₀) × (length pack ≡ length pack₀) × (length list ≡ length list₀) × (length records ≡ length records₀) × (length values ≡ length values₀) × (length a ≡ length a₀) × (length b ≡ length b₀) × (length c ≡ length c₀) × (length d ≡ length d₀)

@@ -1,5 +1,5 @@
 -- `test_records::answer` meets its contract: what `check` accepts is ready to be filled from. Assumes nothing.
-use Rattle.lines.proofs.Opened.{long, fits}
+use Rattle.print_lines.proofs.Opened.{long, fits}
 use borrow.Author.Needs.{needs}
 use Rattle.test_records.proofs.answer.Statement.{statement}
 use Rattle.test_records.proofs.answer.Tie as tie

@@ -1,6 +1,6 @@
 use borrow.Author.Needs.{needs}
 -- `two_table::put_root` meets its contract: the parts one after the other. Assumes nothing.
-use Rattle.text.specs.Buffer.{then}
+use Rattle.print_text.specs.Buffer.{then}
 use Rattle.two_table.specs.Lines.{rootText}
 use Rattle.two_table.proofs.put_root.Statement.{statement}
 use Rattle.two_table.proofs.put_root.Tie as tie

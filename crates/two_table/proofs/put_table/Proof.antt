@@ -6,7 +6,7 @@ use mathlib.Core.Path.{_≡_, ap, _∙_}
 use mathlib.Core.List.{List}
 use borrow.Author.Needs.{needs}
 use lib.ListN.{getD}
-use Rattle.text.specs.Buffer.{Puts, none, then, same-text, length-kept}
+use Rattle.print_text.specs.Buffer.{Puts, none, then, same-text, length-kept}
 use Rattle.num_elementary.specs.Two.{twoRoot}
 use Rattle.num_elementary.specs.Roots.{twoRoots, roots-at}
 use Rattle.two_table.specs.Lines.{rootText, tableText}

@@ -1,0 +1,27 @@
+-- `print_text::digit` meets its contract. Assumes nothing.
+use Rattle.print_text.proofs.Digits.{digit-low, digit-high}
+use borrow.Author.Needs.{needs}
+use Rattle.print_text.proofs.digit.Statement.{statement}
+use Rattle.print_text.proofs.digit.Tie as tie
+
+cast-result : tie.Need-cast-result
+cast-result c = search needs
+
+add-result : tie.Need-add-result
+add-result c = search needs
+
+cast-result-2 : tie.Need-cast-result-2
+cast-result-2 c = search needs
+
+add-result-2 : tie.Need-add-result-2
+add-result-2 c = search needs
+
+returns : tie.Need-returns
+returns c = digit-low _ (search needs)
+
+returns-2 : tie.Need-returns-2
+returns-2 c = digit-high _ (search needs)
+
+pub digit-spec : {M : Type 1} → statement M
+digit-spec =
+    tie.close (tie.spec cast-result add-result cast-result-2 add-result-2 returns returns-2)
