@@ -5,7 +5,7 @@ ghost use mathlib.Core.Path.{_≡_};
 ghost use Prim.Native.Nat.{_+_, _-_, _*_, _<_, _≤_, min, max};
 ghost use lib.ListN.{length};
 ghost use Rattle.chart_opening.specs.Header.{layoutOf};
-ghost use Rattle.calls.specs.Tables.{recordWidth, valueWidth, entriesOf};
+ghost use Rattle.calls.specs.Tables.{recordWidth, valueWidth};
 ghost use Rattle.calls.specs.Conditions as ops;
 ghost use Rattle.num_tables.specs.Parts.{rowsUp, rowsDown};
 ghost use Rattle.calls.specs.Calls.{state, result, openAnswer, openLeaves, outcome, openRecords, openValues, editRecords, editValues};
@@ -16,13 +16,6 @@ ghost use Rattle.calls_editor.specs.Answers.{Fits, replaceAnswer, insert
 use chart_opening::Refusal;
 use chart_opening::Settings;
 use chart_opening::Verdict;
-
-// How many whole entries both tables have.
-fn entries_in(records: usize, values: usize) -> usize
-    ensures { λ r. ⌜ r ≡ entriesOf records values ⌝ }
-{
-    smaller(records / calls::RECORD_WIDTH, values / calls::VALUE_WIDTH)
-}
 
 // The later of 1 and k.
 fn from_one(k: usize) -> usize
@@ -46,7 +39,7 @@ fn before(k: usize) -> usize
 }
 
 // Fills entries 1 to N - 1 of an accepted chart's tables, under a player's settings.
-fn fill_tables(chart: &[u8], set: Settings, records: &mut [f64], values: &mut [f64])
+pub fn fill_tables(chart: &[u8], set: Settings, records: &mut [f64], values: &mut [f64])
     requires { ⌜ Fits (now chart) (length (now records)) (length (now values)) ⌝ }
     ensures records { λ _. ⌜ now (records .exit) ≡ openRecords set (now (chart .entry)) (now (records .entry)) ⌝ }
     ensures values { λ _. ⌜ now (values .exit) ≡ openValues set (now (chart .entry)) (now (records .exit)) (now (values .entry)) ⌝ }
@@ -64,7 +57,11 @@ pub fn open_as(chart: &[u8], settings: &[u8], records: &mut [f64], values: &mut 
         ≡ openLeavesAs (now (settings .entry)) (state (now (chart .entry)) (now (records .entry)) (now (values .entry))) ⌝ }
     ensures settings { λ _. ⌜ now (settings .exit) ≡ now (settings .entry) ⌝ }
 {
-    match chart_players::check_as(chart, settings, entries_in(records.len(), values.len())) {
+    match chart_players::check_as(
+        chart,
+        settings,
+        calls::entries_in(records.len(), values.len()),
+    ) {
         Verdict::Refused(r) => Verdict::Refused(r),
         Verdict::Accepted => {
             fill_tables(
@@ -153,7 +150,7 @@ pub fn replace(
         chart,
         place,
         object,
-        entries_in(records.len(), values.len()),
+        calls::entries_in(records.len(), values.len()),
     ) {
         Verdict::Refused(r) => Verdict::Refused(r),
         Verdict::Accepted => {
@@ -265,7 +262,7 @@ pub fn insert(
         chart,
         place,
         object,
-        entries_in(records.len(), values.len()),
+        calls::entries_in(records.len(), values.len()),
     ) {
         Verdict::Refused(r) => Verdict::Refused(r),
         Verdict::Accepted => {
@@ -298,7 +295,7 @@ pub fn remove(chart: &mut [u8], place: usize, records: &mut [f64], values: &mut 
     ensures { λ r. ⌜ result (removeAnswer r) (now (chart .exit)) (now (records .exit)) (now (values .exit))
         ≡ outcome (ops.remove place) (state (now (chart .entry)) (now (records .entry)) (now (values .entry))) ⌝ }
 {
-    match chart_inserting::remove(chart, place, entries_in(records.len(), values.len())) {
+    match chart_inserting::remove(chart, place, calls::entries_in(records.len(), values.len())) {
         Verdict::Refused(r) => Verdict::Refused(r),
         Verdict::Accepted => {
             let set = chart_opening::settings_at(chart, calls::SETTINGS_AT);
@@ -332,8 +329,8 @@ pub fn replace_both(
         settings,
         place,
         object,
-        entries_in(records.len(), values.len()),
-        entries_in(second_records.len(), second_values.len()),
+        calls::entries_in(records.len(), values.len()),
+        calls::entries_in(second_records.len(), second_values.len()),
     ) {
         Verdict::Refused(r) => Verdict::Refused(r),
         Verdict::Accepted => {
@@ -370,8 +367,8 @@ pub fn insert_both(
         settings,
         place,
         object,
-        entries_in(records.len(), values.len()),
-        entries_in(second_records.len(), second_values.len()),
+        calls::entries_in(records.len(), values.len()),
+        calls::entries_in(second_records.len(), second_values.len()),
     ) {
         Verdict::Refused(r) => Verdict::Refused(r),
         Verdict::Accepted => {
@@ -405,8 +402,8 @@ pub fn remove_both(
         chart,
         settings,
         place,
-        entries_in(records.len(), values.len()),
-        entries_in(second_records.len(), second_values.len()),
+        calls::entries_in(records.len(), values.len()),
+        calls::entries_in(second_records.len(), second_values.len()),
     ) {
         Verdict::Refused(r) => Verdict::Refused(r),
         Verdict::Accepted => {

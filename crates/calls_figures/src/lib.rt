@@ -45,15 +45,6 @@ pub enum RatingsAnswer {
     Refused(Refusal),
 }
 
-// Whether a slice of scratch is too short.
-fn scratch_short(aim: usize, aim_no_sliders: usize, speed: usize, flashlight: usize) -> bool
-    ensures { λ r. ⌜ r ≡ scratchShort (record { aim = aim; aimNoSliders = «aim_no_sliders»; speed = speed; flashlight = flashlight }) ⌝ }
-{
-    (aim < calls::LEAST_SCRATCH)
-        | ((aim_no_sliders < calls::LEAST_SCRATCH)
-            | ((speed < calls::LEAST_SCRATCH) | (flashlight < calls::LEAST_SCRATCH)))
-}
-
 // Conditions 1 to 7 for the second player, over a value table of as many entries, where scratch is short or not.
 fn check_sums(chart: &[u8], settings: &[u8], entries: usize, short: bool) -> Verdict
     ensures { λ r. ⌜ r ≡ secondVerdict (now (settings .entry)) (now (chart .entry))
@@ -85,7 +76,7 @@ fn check_lent(
         (sumVerdict (under (now (settings .entry)) (now (chart .entry))) (valueEntries values)
         (scratchShort (record { aim = aim; aimNoSliders = «aim_no_sliders»; speed = speed; flashlight = flashlight }))) ⌝ }
 {
-    let short = scratch_short(aim, aim_no_sliders, speed, flashlight);
+    let short = calls::scratch_short(aim, aim_no_sliders, speed, flashlight);
     check_sums(chart, settings, values / calls::VALUE_WIDTH, short)
 }
 

@@ -9,8 +9,7 @@ ghost use Rattle.chart_opening.specs.Header.{layoutOf, settingsOf};
 ghost use Rattle.chart_opening.specs.Conditions.{firstOf};
 ghost use Rattle.chart_opening.specs.declared.Verdict.the-variants.{Accepted};
 ghost use Rattle.skills.specs.Chart.{totalsOf};
-ghost use Rattle.calls.specs.Tables.{entriesOf};
-ghost use Rattle.calls.specs.Conditions.{lengths, scratchShort, opening};
+ghost use Rattle.calls.specs.Conditions.{lengths, opening};
 ghost use Rattle.calls.specs.Calls.{cleared};
 ghost use Rattle.calls_figures.specs.Answers.{Sums, scratchOf};
 ghost use Rattle.pack_order.specs.Listing.{chartAt, ranked, mostCharts, keyWidth};
@@ -32,24 +31,6 @@ pub struct Key {
     pub aim: f64,
     pub speed: f64,
     pub flashlight: f64,
-}
-
-// How many whole entries both tables have.
-fn entries_in(records: usize, values: usize) -> usize
-    ensures { λ r. ⌜ r ≡ entriesOf records values ⌝ }
-{
-    let records = records / calls::RECORD_WIDTH;
-    let values = values / calls::VALUE_WIDTH;
-    if values < records { values } else { records }
-}
-
-// Whether a slice of scratch is too short.
-fn scratch_short(aim: usize, aim_no_sliders: usize, speed: usize, flashlight: usize) -> bool
-    ensures { λ r. ⌜ r ≡ scratchShort (record { aim = aim; aimNoSliders = «aim_no_sliders»; speed = speed; flashlight = flashlight }) ⌝ }
-{
-    (aim < calls::LEAST_SCRATCH)
-        | ((aim_no_sliders < calls::LEAST_SCRATCH)
-            | ((speed < calls::LEAST_SCRATCH) | (flashlight < calls::LEAST_SCRATCH)))
 }
 
 // Whether a chart would open and be rated.
@@ -102,10 +83,8 @@ fn fill_tables(chart: &[u8], records: &mut [f64], values: &mut [f64])
     ensures { λ _. ⌜ tables (now (records .exit)) (now (values .exit))
         ≡ openedInto (now (chart .entry)) (tables (now (records .entry)) (now (values .entry))) ⌝ }
 {
-    let lay = chart_opening::layout_of(chart);
     let set = chart_opening::settings_at(chart, calls::SETTINGS_AT);
-    osu_records::fill(chart, lay, set, records);
-    eval_values::fill_values(values, records, chart, lay, set, 1, lay.n);
+    calls_editor::fill_tables(chart, set, records, values);
 }
 
 // The numbers of a chart over its values. What is in the scratch afterwards is not used.
@@ -317,8 +296,8 @@ pub fn check(
     if MOST_CHARTS < list.len() {
         return Verdict::Refused(Refusal::Place);
     }
-    let entries = entries_in(records, values);
-    let short = scratch_short(aim, aim_no_sliders, speed, flashlight);
+    let entries = calls::entries_in(records, values);
+    let short = calls::scratch_short(aim, aim_no_sliders, speed, flashlight);
     check_all(pack, list, entries, short, asked.is_finite())
 }
 

@@ -1,4 +1,4 @@
-// Lines of the programs' answers. As in `text`, each function appends at an offset of a lent buffer and returns the offset behind what it wrote.
+// Lines of the programs' answers. As in `print_text`, each function appends at an offset of a lent buffer and returns the offset behind what it wrote.
 ghost use mathlib.Core.Path.{_≡_};
 ghost use Rattle.print_text.specs.Buffer.{Puts};
 ghost use Rattle.eval_values.specs.Values.{rowOf};

@@ -23,57 +23,15 @@ fn wide(x: usize) -> u64 {
     x as u64
 }
 
-// The next step of a 64-bit FNV-1a hash: h ^ w times 2^40 + 0x1B3, by 2^64.
-fn hashed(h: u64, w: u64) -> u64 {
-    let x = h ^ w;
-    let low = x % 0x1_0000_0000 * 0x1B3;
-    let top = x / 0x1_0000_0000 % 0x1_0000_0000 * 0x1B3 % 0x1_0000_0000;
-    let high = top * 0x1_0000_0000;
-    let shifted = x % 0x100_0000 * 0x100_0000_0000;
-    std::num::wrapping_add_u64(std::num::wrapping_add_u64(low, high), shifted)
-}
-
 // The FNV-1a hash of a list.
 fn hash_list(list: &[usize]) -> u64 {
     let mut h = 0xCBF2_9CE4_8422_2325;
     let mut i = 0;
     while i < list.len() {
-        h = hashed(h, wide(list[i]));
+        h = test_replays::lines::hashed(h, wide(list[i]));
         i += 1;
     }
     h
-}
-
-// A hash goes on over the bits of a table.
-fn hash_table(from: u64, table: &[f64]) -> u64 {
-    let mut h = from;
-    let mut i = 0;
-    while i < table.len() {
-        h = hashed(h, num_floats::bits_of_f64(table[i]));
-        i += 1;
-    }
-    h
-}
-
-// Fills a table or scratch with what is unused.
-fn mark(table: &mut [f64]) {
-    let mut i = 0;
-    while i < table.len() {
-        table[i] = UNUSED;
-        i += 1;
-    }
-}
-
-// Whether all numbers have these bits.
-fn holds(table: &[f64], bits: u64) -> bool {
-    let mut i = 0;
-    while i < table.len() {
-        if num_floats::bits_of_f64(table[i]) != bits {
-            return false;
-        }
-        i += 1;
-    }
-    true
 }
 
 // Reads a number of offsets and the offsets into the list.
@@ -165,20 +123,16 @@ fn carry_out(
 
 // A hash of list and tables.
 fn hash_all(list: &[usize], records: &[f64], values: &[f64]) -> u64 {
-    hash_table(hash_table(hash_list(list), records), values)
+    let h = test_replays::lines::hash_table(hash_list(list), records);
+    test_replays::lines::hash_table(h, values)
 }
 
-// Fills all scratch with what is unused.
-fn mark_all(a: &mut [f64], b: &mut [f64], c: &mut [f64], d: &mut [f64]) {
-    mark(a);
-    mark(b);
-    mark(c);
-    mark(d);
-}
-
-// Whether all scratch has these bits.
-fn all_hold(a: &[f64], b: &[f64], c: &[f64], d: &[f64], bits: u64) -> bool {
-    holds(a, bits) & (holds(b, bits) & (holds(c, bits) & holds(d, bits)))
+// Whether all scratch is x, bit for bit.
+fn all_hold(a: &[f64], b: &[f64], c: &[f64], d: &[f64], x: f64) -> bool {
+    test_replays::lines::holds(a, x)
+        & test_replays::lines::holds(b, x)
+        & test_replays::lines::holds(c, x)
+        & test_replays::lines::holds(d, x)
 }
 
 // Ranks a list with tables and scratch as they are lent, and puts the line.
@@ -199,37 +153,38 @@ fn rank_with(
     let before = hash_all(list, records, values);
     let v = carry_out(kind, pack, list, first, asked, records, values, a, b, c, d);
     let same = before == hash_all(list, records, values);
-    let unused = all_hold(a, b, c, d, num_floats::bits_of_f64(UNUSED));
-    let zero = all_hold(a, b, c, d, 0);
+    let unused = all_hold(a, b, c, d, UNUSED);
+    let zero = all_hold(a, b, c, d, 0.0);
     put_verdict(out, v, list, same & unused, zero)
 }
 
-// Reads the lengths of tables and scratch, and ranks a list with as much.
-fn rank_within(
+// Reads a request to rank, with the lengths of tables and scratch that are lent for it, and puts its line.
+fn rank(
     out: &mut [u8],
     kind: usize,
     pack: &[u8],
-    list: &mut [usize],
-    first: usize,
-    asked: Asked,
     records: &mut [f64],
     values: &mut [f64],
-    a: &mut [f64],
-    b: &mut [f64],
-    c: &mut [f64],
-    d: &mut [f64],
 ) -> usize {
+    let mut list = [0usize; 512];
+    let mut a = [UNUSED; 9000];
+    let mut b = [UNUSED; 9000];
+    let mut c = [UNUSED; 9000];
+    let mut d = [UNUSED; 9000];
+    let first = print_text::next_word();
+    let asked = read_asked();
+    let n = read_offsets(&mut list[..]);
     let r = print_text::next_length(records.len());
     let v = print_text::next_length(values.len());
-    let x = print_text::next_length(a.len());
-    let y = print_text::next_length(b.len());
-    let z = print_text::next_length(c.len());
-    let w = print_text::next_length(d.len());
+    let x = print_text::next_length(9000);
+    let y = print_text::next_length(9000);
+    let z = print_text::next_length(9000);
+    let w = print_text::next_length(9000);
     rank_with(
         out,
         kind,
         pack,
-        list,
+        &mut list[0..n],
         first,
         asked,
         &mut records[0..r],
@@ -238,39 +193,6 @@ fn rank_within(
         &mut b[0..y],
         &mut c[0..z],
         &mut d[0..w],
-    )
-}
-
-// Reads a request to rank, and puts its line.
-fn rank(
-    out: &mut [u8],
-    kind: usize,
-    pack: &[u8],
-    list: &mut [usize],
-    records: &mut [f64],
-    values: &mut [f64],
-    a: &mut [f64],
-    b: &mut [f64],
-    c: &mut [f64],
-    d: &mut [f64],
-) -> usize {
-    let first = print_text::next_word();
-    let asked = read_asked();
-    let n = read_offsets(list);
-    mark_all(a, b, c, d);
-    rank_within(
-        out,
-        kind,
-        pack,
-        &mut list[0..n],
-        first,
-        asked,
-        records,
-        values,
-        a,
-        b,
-        c,
-        d,
     )
 }
 
@@ -305,8 +227,7 @@ fn put_entry(out: &mut [u8], place: usize, records: &[f64], values: &[f64]) -> u
     if values.len() < calls::VALUE_WIDTH * place + calls::VALUE_WIDTH {
         return word;
     }
-    let unused = num_floats::bits_of_f64(UNUSED);
-    if holds(&records[r..r + calls::RECORD_WIDTH], unused) {
+    if test_replays::lines::holds(&records[r..r + calls::RECORD_WIDTH], UNUSED) {
         let end = print_text::put_decimal(out, word, wide(place));
         return print_text::put_all(out, end, b" kept\n");
     }
@@ -314,91 +235,41 @@ fn put_entry(out: &mut [u8], place: usize, records: &[f64], values: &[f64]) -> u
 }
 
 // Answers one request.
-fn answer(
-    out: &mut [u8],
-    pack: &[u8],
-    list: &mut [usize],
-    records: &mut [f64],
-    values: &mut [f64],
-    a: &mut [f64],
-    b: &mut [f64],
-    c: &mut [f64],
-    d: &mut [f64],
-) {
+fn answer(pack: &[u8], records: &mut [f64], values: &mut [f64]) {
+    let mut out = [0u8; 8192];
     let kind = print_text::next_word();
     if kind == 2 {
-        let end = put_entry(out, print_text::next_length(ENTRIES), records, values);
-        print_text::show(out, end);
+        let place = print_text::next_length(ENTRIES);
+        let end = put_entry(&mut out[..], place, records, values);
+        print_text::show(&out[..], end);
         return;
     }
-    let end = rank(out, kind, pack, list, records, values, a, b, c, d);
-    print_text::show(out, end);
+    let end = rank(&mut out[..], kind, pack, records, values);
+    print_text::show(&out[..], end);
 }
 
 // Answers the requests of a pack.
-fn answers(
-    out: &mut [u8],
-    pack: &[u8],
-    list: &mut [usize],
-    records: &mut [f64],
-    values: &mut [f64],
-    a: &mut [f64],
-    b: &mut [f64],
-    c: &mut [f64],
-    d: &mut [f64],
-) {
+fn answers(pack: &[u8]) {
+    let mut records = [UNUSED; 4096];
+    let mut values = [UNUSED; 1280];
     let mut left = print_text::next_length(MOST);
-    mark(records);
-    mark(values);
     while 0 < left {
-        answer(out, pack, list, records, values, a, b, c, d);
+        answer(pack, &mut records[..], &mut values[..]);
         left -= 1;
     }
 }
 
-// Reads the packs and answers their requests.
-fn run(
-    out: &mut [u8],
-    pack: &mut [u8],
-    list: &mut [usize],
-    records: &mut [f64],
-    values: &mut [f64],
-    a: &mut [f64],
-    b: &mut [f64],
-    c: &mut [f64],
-    d: &mut [f64],
-) {
+// Packs to the end of the input.
+fn main() {
+    let mut pack = [0u8; 65536];
     let mut left = MOST;
     while 0 < left {
-        let n = print_text::read_chart(pack);
-        if n <= pack.len() {
-            answers(out, &pack[0..n], list, records, values, a, b, c, d);
+        let n = print_text::read_chart(&mut pack[..]);
+        if n <= 65536 {
+            answers(&pack[0..n]);
             left -= 1;
         } else {
             left = 0;
         }
     }
-}
-
-fn main() {
-    let mut pack = [0u8; 65536];
-    let mut list = [0usize; 512];
-    let mut records = [0.0f64; 4096];
-    let mut values = [0.0f64; 1280];
-    let mut a = [0.0f64; 9000];
-    let mut b = [0.0f64; 9000];
-    let mut c = [0.0f64; 9000];
-    let mut d = [0.0f64; 9000];
-    let mut out = [0u8; 65536];
-    run(
-        &mut out[..],
-        &mut pack[..],
-        &mut list[..],
-        &mut records[..],
-        &mut values[..],
-        &mut a[..],
-        &mut b[..],
-        &mut c[..],
-        &mut d[..],
-    );
 }

@@ -1,3 +1,4 @@
+-- `calls_editor::bring_up_to_date` meets its contract. Assumes nothing.
 use Rattle.calls.specs.Calls.{openRecords}
 use Rattle.calls_editor.proofs.Outcomes.{records-opened, values-opened, records-edited, values-edited}
 use Rattle.eval_values.specs.Values.{valuesIn}
@@ -10,56 +11,37 @@ use mathlib.Core.Path.{refl, sym, ap, _∙_}
 use borrow.Author.Needs.{needs}
 use Rattle.calls_editor.proofs.bring_up_to_date.Statement.{statement}
 use Rattle.calls_editor.proofs.bring_up_to_date.Tie as tie
-use Rattle.calls_editor.proofs.bring_up_to_date.Reads as reads
-use Rattle.calls_editor.proofs.bring_up_to_date.Lts as lts
-use Rattle.chart_opening.proofs.layout_of.Reads as layout-of-reads
-use Rattle.calls_editor.proofs.before.Reads as before-reads
-use Rattle.calls_editor.proofs.from_one.Reads as from-one-reads
-use Rattle.calls_editor.proofs.smaller.Reads as smaller-reads
-use Rattle.eval_values.proofs.fill_values.Reads as fill-values-reads
-use Rattle.osu_records.proofs.fill_range.Reads as fill-range-reads
 
--- src/lib.rt:103:9
 layout-of-requires : tie.Need-layout-of-requires
 layout-of-requires c κs = search needs
 
--- src/lib.rt:109:9
 from-one-requires : tie.Need-from-one-requires
 from-one-requires c κs = search needs
 
--- src/lib.rt:110:9
 smaller-requires : tie.Need-smaller-requires
 smaller-requires c κs = search needs
 
--- src/lib.rt:105:5
 fill-range-requires : tie.Need-fill-range-requires
 fill-range-requires c κs = let f = c .before .before .before .before .before .before .before .pre in let l = ap (λ (x : Layout). x .n) (c .before .before .before .layout-of .ensures) in (rw (c .before .before .before .layout-of .ensures) (f .ready), omega (arith, c .before .before .from-one .ensures), omega (arith, c .before .smaller .ensures), omega (arith, c .before .smaller .ensures, f .records, l))
 
--- src/lib.rt:113:25
 before-requires : tie.Need-before-requires
 before-requires c κs = search needs
 
--- src/lib.rt:113:9
 from-one-requires-2 : tie.Need-from-one-requires-2
 from-one-requires-2 c κs = search needs
 
--- src/lib.rt:121:9
 smaller-requires-2 : tie.Need-smaller-requires-2
 smaller-requires-2 c κs = search needs
 
--- src/lib.rt:114:5
 fill-values-requires : tie.Need-fill-values-requires
 fill-values-requires c κs = let f = c .before .before .before .before .before .before .before .before .before .before .before .before .before .before .before .pre in let l = ap (λ (x : Layout). x .n) (c .before .before .before .before .before .before .before .before .before .before .before .layout-of .ensures) in (rw (c .before .before .before .before .before .before .before .before .before .before .before .layout-of .ensures) (f .ready), omega (arith, c .before .before .before .from-one2 .ensures), omega (arith, c .smaller2 .ensures), omega (arith, f .records, l), omega (arith, f .values, l))
 
--- src/lib.rt:90:1
 same-length : tie.Need-same-length
 same-length c = search needs
 
--- src/lib.rt:90:1
 same-length-2 : tie.Need-same-length-2
 same-length-2 c = search needs
 
--- src/lib.rt:90:1
 returns : tie.Need-returns
 returns c = let a = c .before .before .before .before .before .before .before .before .before .before .before .before .before .before .before .before .before .before .args in let b = a .chart .now in let k = a .place in let l = c .before .before .before .before .before .before .before .before .before .before .before .before .before .before .layout-of .ensures in let from = c .before .before .before .before .before .before .from-one2 .ensures ∙ ap (max 1) (c .before .before .before .before .before .before .before .before2 .ensures) in let to = c .before .before .before .before .before .before .before .before .before .before .before .before .smaller .ensures ∙ ap (λ (x : Layout). min (a .records-end) (x .n)) l in let to2 = c .before .before .before .smaller2 .ensures ∙ ap (λ (x : Layout). min (a .values-end) (x .n)) l in let rows = c .before .before .before .before .before .before .before .before .before .before .fill-range .last .1 .1 .1 .1 .1 .0 in (c .before .before .before .before .before .before .before .before .before .before .fill-range .ensures ∙ ((λ i. filledRange b (l i) (a .set) (c .before .before .before .before .before .before .before .before .before .before .before .before .before .from-one .ensures i) (to i) (a .records .now)) ∙ sym (records-edited (a .set) b k (a .records-end) (a .records .now))), c .before .before .fill-values .ensures ∙ ((λ i. fill 5 (valuesIn (a .set) b (l i) rows) (from i) (to2 i - from i) (a .values .now)) ∙ sym (values-edited (a .set) b k (a .values-end) rows (a .values .now))))
 

@@ -1,3 +1,4 @@
+-- `calls_editor::insert` meets its contract. Assumes nothing.
 use Rattle.calls_editor.proofs.Second.{count-less, count-more}
 use Rattle.calls_editor.proofs.Outcomes.{insert-refused, insert-accepted}
 use Rattle.calls_editor.proofs.Edits.{chart-after, chart-kept}
@@ -22,58 +23,40 @@ use mathlib.Core.Path.{refl, sym, ap, _∙_}
 use borrow.Author.Needs.{needs}
 use Rattle.calls_editor.proofs.insert.Statement.{statement}
 use Rattle.calls_editor.proofs.insert.Tie as tie
-use Rattle.calls_editor.proofs.insert.Reads as reads
-use Rattle.calls_editor.proofs.insert.Lts as lts
-use Rattle.chart_inserting.proofs.insert.Reads as insert-reads
-use Rattle.chart_opening.proofs.settings_at.Reads as settings-at-reads
-use Rattle.calls_editor.proofs.entries_in.Reads as entries-in-reads
-use Rattle.calls_editor.proofs.insert_rows.Reads as insert-rows-reads
 
--- src/lib.rt:275:9
 entries-in-requires : tie.Need-entries-in-requires
 entries-in-requires c κs = search needs
 
--- src/lib.rt:271:11
 insert-requires : tie.Need-insert-requires
 insert-requires c κs = search needs
 
--- src/lib.rt:277:26
 enum-known-r : tie.Need-enum-known-r
 enum-known-r c = search needs
 
--- src/lib.rt:279:50
 enum-told : tie.Need-enum-told
 enum-told c = search needs
 
--- src/lib.rt:279:17
 settings-at-requires : tie.Need-settings-at-requires
 settings-at-requires c κs = let a = c .before .before .before .before .before .before .before .before .before .before .before .before .args in let f = inserted-fits (a .chart .now) (a .place) (a .object .now) (length (a .records .now)) (length (a .values .now)) (ap (λ (n : ℕ). insertVerdict (a .chart .now) (a .place) (a .object .now) n) (sym (c .before .before .before .before .before .before .entries-in .ensures)) ∙ (sym (c .before .before .before .before .before .insert .ensures .0) ∙ c .before .enum-told .given .1)) in let q = chart-after _ _ _ _ (c .before .before .before .before .before .insert .ensures .1) (c .before .enum-told .given .1) in rw q (f .0 .long)
 
--- src/lib.rt:280:13
 insert-rows-requires : tie.Need-insert-rows-requires
 insert-rows-requires c κs = let a = c .before .before .before .before .before .before .before .before .before .before .before .before .before .before .before .before .args in let f = inserted-fits (a .chart .now) (a .place) (a .object .now) (length (a .records .now)) (length (a .values .now)) (ap (λ (n : ℕ). insertVerdict (a .chart .now) (a .place) (a .object .now) n) (sym (c .before .before .before .before .before .before .before .before .before .before .entries-in .ensures)) ∙ (sym (c .before .before .before .before .before .before .before .before .before .insert .ensures .0) ∙ c .before .before .before .before .before .enum-told .given .1)) in let q = chart-after _ _ _ _ (c .before .before .before .before .before .before .before .before .before .insert .ensures .1) (c .before .before .before .before .before .enum-told .given .1) in rw q f
 
--- src/lib.rt:260:1
 same-length : tie.Need-same-length
 same-length c = search needs
 
--- src/lib.rt:260:1
 returns : tie.Need-returns
 returns c = let a = c .before .before .before .before .before .before .before .before .before .before .before .before .args in let v = ap (λ (n : ℕ). insertVerdict (a .chart .now) (a .place) (a .object .now) n) (sym (c .before .before .before .before .before .before .entries-in .ensures)) ∙ (sym (c .before .before .before .before .before .insert .ensures .0) ∙ c .before .r .given .1) in let q = chart-kept _ _ _ _ (c .before .before .before .before .before .insert .ensures .1) (c .before .r .given .1) in ((λ i. result (refused (c .before .r .given .0 .0)) (q i) (a .records .now) (a .values .now)) ∙ sym (insert-refused (a .chart .now) (a .records .now) (a .values .now) (a .place) (a .object .now) _ v), refl)
 
--- src/lib.rt:260:1
 same-length-2 : tie.Need-same-length-2
 same-length-2 c = search needs
 
--- src/lib.rt:260:1
 same-length-3 : tie.Need-same-length-3
 same-length-3 c = search needs
 
--- src/lib.rt:260:1
 same-length-4 : tie.Need-same-length-4
 same-length-4 c = search needs
 
--- src/lib.rt:260:1
 returns-2 : tie.Need-returns-2
 returns-2 c = let a = c .before .before .before .before .before .before .before .before .before .before .before .before .before .before .before .before .before .before .before .before .before .args in let v = ap (λ (n : ℕ). insertVerdict (a .chart .now) (a .place) (a .object .now) n) (sym (c .before .before .before .before .before .before .before .before .before .before .before .before .before .before .before .entries-in .ensures)) ∙ (sym (c .before .before .before .before .before .before .before .before .before .before .before .before .before .before .insert .ensures .0) ∙ c .before .before .before .before .before .before .before .before .before .before .enum-told .given .1) in let q = chart-after _ _ _ _ (c .before .before .before .before .before .before .before .before .before .before .before .before .before .before .insert .ensures .1) (c .before .before .before .before .before .before .before .before .before .before .enum-told .given .1) in let n = (ap (λ (b : List ℕ). layoutOf b .n - 1) q ∙ count-less (inserted-more (a .chart .now) (a .place) (a .object .now) (inserted (a .chart .now) (a .place) (a .object .now) _ v) .counts)) in let s = c .before .before .before .before .before .before .before .before .settings-at .ensures ∙ ap settingsOf q in let r = c .before .before .before .before .insert-rows .ensures .0 ∙ (λ i. editRecords (s i) (q i) (a .place) (insertedRecords (a .place)) (rowsUp recordWidth (firstMoved (a .place)) (n i) (a .records .now))) in let w = c .before .before .before .before .insert-rows .ensures .1 ∙ (λ i. editValues (s i) (q i) (a .place) (insertedValues (a .place)) (r i) (rowsUp valueWidth (firstMoved (a .place)) (n i) (a .values .now))) in ((λ i. result answers.inserted (q i) (r i) (w i)) ∙ sym (insert-accepted (a .chart .now) (a .records .now) (a .values .now) (a .place) (a .object .now) v), refl)
 

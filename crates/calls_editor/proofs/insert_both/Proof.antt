@@ -1,3 +1,4 @@
+-- `calls_editor::insert_both` meets its contract. Assumes nothing.
 use Rattle.calls_players.proofs.Own.{both-kept}
 use Rattle.calls_players.specs.Both.{pair}
 use Rattle.calls.specs.Conditions.{insert}
@@ -29,78 +30,55 @@ use mathlib.Core.Path.{refl, sym, ap, _∙_}
 use borrow.Author.Needs.{needs}
 use Rattle.calls_editor.proofs.insert_both.Statement.{statement}
 use Rattle.calls_editor.proofs.insert_both.Tie as tie
-use Rattle.calls_editor.proofs.insert_both.Reads as reads
-use Rattle.calls_editor.proofs.insert_both.Lts as lts
-use Rattle.chart_opening.proofs.settings_at.Reads as settings-at-reads
-use Rattle.chart_players.proofs.insert_both.Reads as insert-both-reads
-use Rattle.calls_editor.proofs.entries_in.Reads as entries-in-reads
-use Rattle.calls_editor.proofs.insert_rows.Reads as insert-rows-reads
 
--- src/lib.rt:386:9
 entries-in-requires : tie.Need-entries-in-requires
 entries-in-requires c κs = search needs
 
--- src/lib.rt:387:9
 entries-in-requires-2 : tie.Need-entries-in-requires-2
 entries-in-requires-2 c κs = search needs
 
--- src/lib.rt:381:11
 insert-both-requires : tie.Need-insert-both-requires
 insert-both-requires c κs = search needs
 
--- src/lib.rt:389:26
 enum-known-r : tie.Need-enum-known-r
 enum-known-r c = search needs
 
--- src/lib.rt:391:50
 enum-told : tie.Need-enum-told
 enum-told c = search needs
 
--- src/lib.rt:391:17
 settings-at-requires : tie.Need-settings-at-requires
 settings-at-requires c κs = let a = c .before .before .before .before .before .before .before .before .before .before .before .before .before .before .before .before .args in let w = both-accepted _ _ ((λ i. bothVerdict (insertVerdict (a .chart .now) (a .place) (a .object .now) (sym (c .before .before .before .before .before .before .before .entries-in .ensures) i)) (secondVerdict (a .settings .now) (a .chart .now) (insertVerdict (under (a .settings .now) (a .chart .now)) (a .place) (a .object .now) (sym (c .before .before .before .before .before .before .entries-in2 .ensures) i)))) ∙ (sym (c .before .before .before .before .before .insert-both .ensures .0) ∙ c .before .enum-told .given .1)) in let f = inserted-fits (a .chart .now) (a .place) (a .object .now) (length (a .records .now)) (length (a .values .now)) (w .0) in let q = chart-after _ _ _ _ (c .before .before .before .before .before .insert-both .ensures .1) (c .before .enum-told .given .1) in rw q (f .0 .long)
 
--- src/lib.rt:392:13
 insert-rows-requires : tie.Need-insert-rows-requires
 insert-rows-requires c κs = let a = c .before .before .before .before .before .before .before .before .before .before .before .before .before .before .before .before .before .before .before .before .args in let w = both-accepted _ _ ((λ i. bothVerdict (insertVerdict (a .chart .now) (a .place) (a .object .now) (sym (c .before .before .before .before .before .before .before .before .before .before .before .entries-in .ensures) i)) (secondVerdict (a .settings .now) (a .chart .now) (insertVerdict (under (a .settings .now) (a .chart .now)) (a .place) (a .object .now) (sym (c .before .before .before .before .before .before .before .before .before .before .entries-in2 .ensures) i)))) ∙ (sym (c .before .before .before .before .before .before .before .before .before .insert-both .ensures .0) ∙ c .before .before .before .before .before .enum-told .given .1)) in let f = inserted-fits (a .chart .now) (a .place) (a .object .now) (length (a .records .now)) (length (a .values .now)) (w .0) in let q = chart-after _ _ _ _ (c .before .before .before .before .before .before .before .before .before .insert-both .ensures .1) (c .before .before .before .before .before .enum-told .given .1) in rw q f
 
--- src/lib.rt:393:17
 settings-at-requires-2 : tie.Need-settings-at-requires-2
 settings-at-requires-2 c κs = let a = c .before .before .before .before .before .before .before .before .before .before .before .before .before .before .before .before .before .before .before .before .before .before .before .before .before .args in let w = both-accepted _ _ ((λ i. bothVerdict (insertVerdict (a .chart .now) (a .place) (a .object .now) (sym (c .before .before .before .before .before .before .before .before .before .before .before .before .before .before .before .before .entries-in .ensures) i)) (secondVerdict (a .settings .now) (a .chart .now) (insertVerdict (under (a .settings .now) (a .chart .now)) (a .place) (a .object .now) (sym (c .before .before .before .before .before .before .before .before .before .before .before .before .before .before .before .entries-in2 .ensures) i)))) ∙ (sym (c .before .before .before .before .before .before .before .before .before .before .before .before .before .before .insert-both .ensures .0) ∙ c .before .before .before .before .before .before .before .before .before .before .enum-told .given .1)) in let f = inserted-fits-second (a .chart .now) (a .place) (a .object .now) (length (a .second-records .now)) (length (a .second-values .now)) (a .settings .now) (inserted (a .chart .now) (a .place) (a .object .now) _ (w .0)) (w .1) .1 in omega (arith, f)
 
--- src/lib.rt:394:13
 insert-rows-requires-2 : tie.Need-insert-rows-requires-2
 insert-rows-requires-2 c κs = let a = c .before .before .before .before .before .before .before .before .before .before .before .before .before .before .before .before .before .before .before .before .before .before .before .before .before .before .before .before .before .args in let w = both-accepted _ _ ((λ i. bothVerdict (insertVerdict (a .chart .now) (a .place) (a .object .now) (sym (c .before .before .before .before .before .before .before .before .before .before .before .before .before .before .before .before .before .before .before .before .entries-in .ensures) i)) (secondVerdict (a .settings .now) (a .chart .now) (insertVerdict (under (a .settings .now) (a .chart .now)) (a .place) (a .object .now) (sym (c .before .before .before .before .before .before .before .before .before .before .before .before .before .before .before .before .before .before .before .entries-in2 .ensures) i)))) ∙ (sym (c .before .before .before .before .before .before .before .before .before .before .before .before .before .before .before .before .before .before .insert-both .ensures .0) ∙ c .before .before .before .before .before .before .before .before .before .before .before .before .before .before .enum-told .given .1)) in let f = inserted-fits-second (a .chart .now) (a .place) (a .object .now) (length (a .second-records .now)) (length (a .second-values .now)) (a .settings .now) (inserted (a .chart .now) (a .place) (a .object .now) _ (w .0)) (w .1) in let q = chart-after _ _ _ _ (c .before .before .before .before .before .before .before .before .before .before .before .before .before .before .before .before .before .before .insert-both .ensures .1) (c .before .before .before .before .before .before .before .before .before .before .before .before .before .before .enum-told .given .1) in rw q (f .0)
 
--- src/lib.rt:363:1
 same-length : tie.Need-same-length
 same-length c = search needs
 
--- src/lib.rt:363:1
 returns : tie.Need-returns
 returns c = let a = c .before .before .before .before .before .before .before .before .before .before .before .before .before .before .before .before .args in let v = (λ i. bothVerdict (insertVerdict (a .chart .now) (a .place) (a .object .now) (sym (c .before .before .before .before .before .before .before .entries-in .ensures) i)) (secondVerdict (a .settings .now) (a .chart .now) (insertVerdict (under (a .settings .now) (a .chart .now)) (a .place) (a .object .now) (sym (c .before .before .before .before .before .before .entries-in2 .ensures) i)))) ∙ (sym (c .before .before .before .before .before .insert-both .ensures .0) ∙ c .before .r .given .1) in let q = chart-kept _ _ _ _ (c .before .before .before .before .before .insert-both .ensures .1) (c .before .r .given .1) in (insert-both-is (a .settings .now) (a .chart .now) (a .records .now) (a .values .now) (a .second-records .now) (a .second-values .now) (a .place) (a .object .now) _ (sym v), ((λ i. pair (q i) (a .records .now) (a .values .now) (a .second-records .now) (a .second-values .now)) ∙ sym (both-kept (a .settings .now) (insert (a .place) (a .object .now)) (pair (a .chart .now) (a .records .now) (a .values .now) (a .second-records .now) (a .second-values .now)) _ (sym (insert-both-is (a .settings .now) (a .chart .now) (a .records .now) (a .values .now) (a .second-records .now) (a .second-values .now) (a .place) (a .object .now) _ refl) ∙ v)), (refl, refl)))
 
--- src/lib.rt:363:1
 same-length-2 : tie.Need-same-length-2
 same-length-2 c = search needs
 
--- src/lib.rt:363:1
 same-length-3 : tie.Need-same-length-3
 same-length-3 c = search needs
 
--- src/lib.rt:363:1
 same-length-4 : tie.Need-same-length-4
 same-length-4 c = search needs
 
--- src/lib.rt:363:1
 same-length-5 : tie.Need-same-length-5
 same-length-5 c = search needs
 
--- src/lib.rt:363:1
 same-length-6 : tie.Need-same-length-6
 same-length-6 c = search needs
 
--- src/lib.rt:363:1
 returns-2 : tie.Need-returns-2
 returns-2 c = let a = c .before .before .before .before .before .before .before .before .before .before .before .before .before .before .before .before .before .before .before .before .before .before .before .before .before .before .before .before .before .before .before .before .before .before .args in let v = (λ i. bothVerdict (insertVerdict (a .chart .now) (a .place) (a .object .now) (sym (c .before .before .before .before .before .before .before .before .before .before .before .before .before .before .before .before .before .before .before .before .before .before .before .before .before .entries-in .ensures) i)) (secondVerdict (a .settings .now) (a .chart .now) (insertVerdict (under (a .settings .now) (a .chart .now)) (a .place) (a .object .now) (sym (c .before .before .before .before .before .before .before .before .before .before .before .before .before .before .before .before .before .before .before .before .before .before .before .before .entries-in2 .ensures) i)))) ∙ (sym (c .before .before .before .before .before .before .before .before .before .before .before .before .before .before .before .before .before .before .before .before .before .before .before .insert-both .ensures .0) ∙ c .before .before .before .before .before .before .before .before .before .before .before .before .before .before .before .before .before .before .before .enum-told .given .1) in let q = chart-after _ _ _ _ (c .before .before .before .before .before .before .before .before .before .before .before .before .before .before .before .before .before .before .before .before .before .before .before .insert-both .ensures .1) (c .before .before .before .before .before .before .before .before .before .before .before .before .before .before .before .before .before .before .before .enum-told .given .1) in let n = (ap (λ (b : List ℕ). layoutOf b .n - 1) q ∙ count-less (inserted-more (a .chart .now) (a .place) (a .object .now) (inserted (a .chart .now) (a .place) (a .object .now) _ (both-accepted _ _ v .0)) .counts)) in let s = c .before .before .before .before .before .before .before .before .before .before .before .before .before .before .before .before .before .settings-at .ensures ∙ ap settingsOf q in let r = c .before .before .before .before .before .before .before .before .before .before .before .before .before .insert-rows .ensures .0 ∙ (λ i. editRecords (s i) (q i) (a .place) (insertedRecords (a .place)) (rowsUp recordWidth (firstMoved (a .place)) (n i) (a .records .now))) in let w = c .before .before .before .before .before .before .before .before .before .before .before .before .before .insert-rows .ensures .1 ∙ (λ i. editValues (s i) (q i) (a .place) (insertedValues (a .place)) (r i) (rowsUp valueWidth (firstMoved (a .place)) (n i) (a .values .now))) in let s2 = c .before .before .before .before .before .before .before .before .settings-at2 .ensures in let r2 = c .before .before .before .before .insert-rows2 .ensures .0 ∙ (λ i. editRecords (s2 i) (q i) (a .place) (insertedRecords (a .place)) (rowsUp recordWidth (firstMoved (a .place)) (n i) (a .second-records .now))) in let w2 = c .before .before .before .before .insert-rows2 .ensures .1 ∙ (λ i. editValues (s2 i) (q i) (a .place) (insertedValues (a .place)) (r2 i) (rowsUp valueWidth (firstMoved (a .place)) (n i) (a .second-values .now))) in (insert-both-is (a .settings .now) (a .chart .now) (a .records .now) (a .values .now) (a .second-records .now) (a .second-values .now) (a .place) (a .object .now) _ (sym v), ((λ i. pair (q i) (r i) (w i) (r2 i) (w2 i)) ∙ sym (insert-both-left (a .settings .now) (a .chart .now) (a .records .now) (a .values .now) (a .second-records .now) (a .second-values .now) (a .place) (a .object .now) v), (refl, refl)))
 

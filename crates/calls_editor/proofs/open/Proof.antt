@@ -1,3 +1,4 @@
+-- `calls_editor::open` meets its contract. Assumes nothing.
 use Rattle.calls_editor.proofs.Outcomes.{opening-is, open-refused}
 use Rattle.calls_players.proofs.Own.{opening-short, own-opening, own-leaves}
 use Rattle.calls.specs.Calls.{state, opened, openAnswer, openLeaves}
@@ -8,39 +9,28 @@ use mathlib.Core.Path.{refl, sym, ap, _∙_}
 use borrow.Author.Needs.{needs}
 use Rattle.calls_editor.proofs.open.Statement.{statement}
 use Rattle.calls_editor.proofs.open.Tie as tie
-use Rattle.calls_editor.proofs.open.Reads as reads
-use Rattle.calls_editor.proofs.open.Lts as lts
-use Rattle.calls_editor.proofs.open_as.Reads as open-as-reads
 
--- src/lib.rt:83:9
 returns : tie.Need-returns
 returns c = let a = c .before .before .before .before .args in let e = opening-short (length (a .records .now)) (length (a .values .now)) (a .chart .now) (c .if1 .taken) in (opening-is (a .chart .now) (a .records .now) (a .values .now) _ (sym e), sym (open-refused (a .chart .now) (a .records .now) (a .values .now) _ e))
 
--- src/lib.rt:85:20
 sub-open-as : tie.Need-sub-open-as
 sub-open-as c = search needs
 
--- src/lib.rt:85:20
 part-open-as-start : tie.Need-part-open-as-start
 part-open-as-start c = search needs
 
--- src/lib.rt:85:20
 part-open-as-end : tie.Need-part-open-as-end
 part-open-as-end c = search needs
 
--- src/lib.rt:85:5
 open-as-requires : tie.Need-open-as-requires
 open-as-requires c κs = search needs
 
--- src/lib.rt:77:1
 same-length : tie.Need-same-length
 same-length c = search needs
 
--- src/lib.rt:77:1
 same-length-2 : tie.Need-same-length-2
 same-length-2 c = search needs
 
--- src/lib.rt:77:1
 returns-2 : tie.Need-returns-2
 unfolding part
 returns-2 c = let a = c .before .before .before .before .before .before .before .before .before .before .before .before .args in let st = state (a .chart .now) (a .records .now) (a .values .now) in (c .before .before .before .before .open-as .ensures .0 ∙ own-opening st (c .before .before .before .before .before .before .before .before .if1 .left), c .before .before .before .before .open-as .ensures .1 .0 ∙ own-leaves st (c .before .before .before .before .before .before .before .before .if1 .left))

@@ -1,3 +1,4 @@
+-- `calls_editor::remove` meets its contract. Assumes nothing.
 use Rattle.calls_editor.proofs.Second.{count-less, count-more}
 use Rattle.calls_editor.proofs.Outcomes.{remove-refused, remove-accepted}
 use Rattle.calls_editor.proofs.Edits.{chart-after, chart-kept}
@@ -22,58 +23,40 @@ use mathlib.Core.Path.{refl, sym, ap, _∙_}
 use borrow.Author.Needs.{needs}
 use Rattle.calls_editor.proofs.remove.Statement.{statement}
 use Rattle.calls_editor.proofs.remove.Tie as tie
-use Rattle.calls_editor.proofs.remove.Reads as reads
-use Rattle.calls_editor.proofs.remove.Lts as lts
-use Rattle.chart_inserting.proofs.remove.Reads as remove-reads
-use Rattle.chart_opening.proofs.settings_at.Reads as settings-at-reads
-use Rattle.calls_editor.proofs.entries_in.Reads as entries-in-reads
-use Rattle.calls_editor.proofs.remove_rows.Reads as remove-rows-reads
 
--- src/lib.rt:314:49
 entries-in-requires : tie.Need-entries-in-requires
 entries-in-requires c κs = search needs
 
--- src/lib.rt:314:11
 remove-requires : tie.Need-remove-requires
 remove-requires c κs = search needs
 
--- src/lib.rt:315:26
 enum-known-r : tie.Need-enum-known-r
 enum-known-r c = search needs
 
--- src/lib.rt:317:50
 enum-told : tie.Need-enum-told
 enum-told c = search needs
 
--- src/lib.rt:317:17
 settings-at-requires : tie.Need-settings-at-requires
 settings-at-requires c κs = let a = c .before .before .before .before .before .before .before .before .before .before .before .args in let f = removed-fits (a .chart .now) (a .place) (length (a .records .now)) (length (a .values .now)) (ap (λ (n : ℕ). removeVerdict (a .chart .now) (a .place) n) (sym (c .before .before .before .before .before .before .entries-in .ensures)) ∙ (sym (c .before .before .before .before .before .remove .ensures .0) ∙ c .before .enum-told .given .1)) in let q = chart-after _ _ _ _ (c .before .before .before .before .before .remove .ensures .1) (c .before .enum-told .given .1) in rw q (f .0 .long)
 
--- src/lib.rt:318:13
 remove-rows-requires : tie.Need-remove-rows-requires
 remove-rows-requires c κs = let a = c .before .before .before .before .before .before .before .before .before .before .before .before .before .before .before .args in let f = removed-fits (a .chart .now) (a .place) (length (a .records .now)) (length (a .values .now)) (ap (λ (n : ℕ). removeVerdict (a .chart .now) (a .place) n) (sym (c .before .before .before .before .before .before .before .before .before .before .entries-in .ensures)) ∙ (sym (c .before .before .before .before .before .before .before .before .before .remove .ensures .0) ∙ c .before .before .before .before .before .enum-told .given .1)) in let q = chart-after _ _ _ _ (c .before .before .before .before .before .before .before .before .before .remove .ensures .1) (c .before .before .before .before .before .enum-told .given .1) in rw q f
 
--- src/lib.rt:310:1
 same-length : tie.Need-same-length
 same-length c = search needs
 
--- src/lib.rt:310:1
 returns : tie.Need-returns
 returns c = let a = c .before .before .before .before .before .before .before .before .before .before .before .args in let v = ap (λ (n : ℕ). removeVerdict (a .chart .now) (a .place) n) (sym (c .before .before .before .before .before .before .entries-in .ensures)) ∙ (sym (c .before .before .before .before .before .remove .ensures .0) ∙ c .before .r .given .1) in let q = chart-kept _ _ _ _ (c .before .before .before .before .before .remove .ensures .1) (c .before .r .given .1) in (λ i. result (refused (c .before .r .given .0 .0)) (q i) (a .records .now) (a .values .now)) ∙ sym (remove-refused (a .chart .now) (a .records .now) (a .values .now) (a .place) _ v)
 
--- src/lib.rt:310:1
 same-length-2 : tie.Need-same-length-2
 same-length-2 c = search needs
 
--- src/lib.rt:310:1
 same-length-3 : tie.Need-same-length-3
 same-length-3 c = search needs
 
--- src/lib.rt:310:1
 same-length-4 : tie.Need-same-length-4
 same-length-4 c = search needs
 
--- src/lib.rt:310:1
 returns-2 : tie.Need-returns-2
 returns-2 c = let a = c .before .before .before .before .before .before .before .before .before .before .before .before .before .before .before .before .before .before .before .before .args in let v = ap (λ (n : ℕ). removeVerdict (a .chart .now) (a .place) n) (sym (c .before .before .before .before .before .before .before .before .before .before .before .before .before .before .before .entries-in .ensures)) ∙ (sym (c .before .before .before .before .before .before .before .before .before .before .before .before .before .before .remove .ensures .0) ∙ c .before .before .before .before .before .before .before .before .before .before .enum-told .given .1) in let q = chart-after _ _ _ _ (c .before .before .before .before .before .before .before .before .before .before .before .before .before .before .remove .ensures .1) (c .before .before .before .before .before .before .before .before .before .before .enum-told .given .1) in let n = (ap (λ (b : List ℕ). layoutOf b .n + 1) q ∙ count-more (removed-more (a .chart .now) (a .place) (removed (a .chart .now) (a .place) _ v) .counts)) in let s = c .before .before .before .before .before .before .before .before .settings-at .ensures ∙ ap settingsOf q in let r = c .before .before .before .before .remove-rows .ensures .0 ∙ (λ i. editRecords (s i) (q i) (a .place) (removedRecords (a .place)) (rowsDown recordWidth (firstMoved (a .place)) (n i) (a .records .now))) in let w = c .before .before .before .before .remove-rows .ensures .1 ∙ (λ i. editValues (s i) (q i) (a .place) (removedValues (a .place)) (r i) (rowsDown valueWidth (firstMoved (a .place)) (n i) (a .values .now))) in (λ i. result answers.removed (q i) (r i) (w i)) ∙ sym (remove-accepted (a .chart .now) (a .records .now) (a .values .now) (a .place) v)
 

@@ -1,3 +1,4 @@
+-- `calls_editor::remove_both` meets its contract. Assumes nothing.
 use Rattle.calls_players.proofs.Own.{both-kept}
 use Rattle.calls_players.specs.Both.{pair}
 use Rattle.calls.specs.Conditions.{remove}
@@ -29,78 +30,55 @@ use mathlib.Core.Path.{refl, sym, ap, _∙_}
 use borrow.Author.Needs.{needs}
 use Rattle.calls_editor.proofs.remove_both.Statement.{statement}
 use Rattle.calls_editor.proofs.remove_both.Tie as tie
-use Rattle.calls_editor.proofs.remove_both.Reads as reads
-use Rattle.calls_editor.proofs.remove_both.Lts as lts
-use Rattle.chart_opening.proofs.settings_at.Reads as settings-at-reads
-use Rattle.chart_players.proofs.remove_both.Reads as remove-both-reads
-use Rattle.calls_editor.proofs.entries_in.Reads as entries-in-reads
-use Rattle.calls_editor.proofs.remove_rows.Reads as remove-rows-reads
 
--- src/lib.rt:421:9
 entries-in-requires : tie.Need-entries-in-requires
 entries-in-requires c κs = search needs
 
--- src/lib.rt:422:9
 entries-in-requires-2 : tie.Need-entries-in-requires-2
 entries-in-requires-2 c κs = search needs
 
--- src/lib.rt:417:11
 remove-both-requires : tie.Need-remove-both-requires
 remove-both-requires c κs = search needs
 
--- src/lib.rt:424:26
 enum-known-r : tie.Need-enum-known-r
 enum-known-r c = search needs
 
--- src/lib.rt:426:50
 enum-told : tie.Need-enum-told
 enum-told c = search needs
 
--- src/lib.rt:426:17
 settings-at-requires : tie.Need-settings-at-requires
 settings-at-requires c κs = let a = c .before .before .before .before .before .before .before .before .before .before .before .before .before .before .before .args in let w = both-accepted _ _ ((λ i. bothVerdict (removeVerdict (a .chart .now) (a .place) (sym (c .before .before .before .before .before .before .before .entries-in .ensures) i)) (secondVerdict (a .settings .now) (a .chart .now) (removeVerdict (under (a .settings .now) (a .chart .now)) (a .place) (sym (c .before .before .before .before .before .before .entries-in2 .ensures) i)))) ∙ (sym (c .before .before .before .before .before .remove-both .ensures .0) ∙ c .before .enum-told .given .1)) in let f = removed-fits (a .chart .now) (a .place) (length (a .records .now)) (length (a .values .now)) (w .0) in let q = chart-after _ _ _ _ (c .before .before .before .before .before .remove-both .ensures .1) (c .before .enum-told .given .1) in rw q (f .0 .long)
 
--- src/lib.rt:427:13
 remove-rows-requires : tie.Need-remove-rows-requires
 remove-rows-requires c κs = let a = c .before .before .before .before .before .before .before .before .before .before .before .before .before .before .before .before .before .before .before .args in let w = both-accepted _ _ ((λ i. bothVerdict (removeVerdict (a .chart .now) (a .place) (sym (c .before .before .before .before .before .before .before .before .before .before .before .entries-in .ensures) i)) (secondVerdict (a .settings .now) (a .chart .now) (removeVerdict (under (a .settings .now) (a .chart .now)) (a .place) (sym (c .before .before .before .before .before .before .before .before .before .before .entries-in2 .ensures) i)))) ∙ (sym (c .before .before .before .before .before .before .before .before .before .remove-both .ensures .0) ∙ c .before .before .before .before .before .enum-told .given .1)) in let f = removed-fits (a .chart .now) (a .place) (length (a .records .now)) (length (a .values .now)) (w .0) in let q = chart-after _ _ _ _ (c .before .before .before .before .before .before .before .before .before .remove-both .ensures .1) (c .before .before .before .before .before .enum-told .given .1) in rw q f
 
--- src/lib.rt:428:17
 settings-at-requires-2 : tie.Need-settings-at-requires-2
 settings-at-requires-2 c κs = let a = c .before .before .before .before .before .before .before .before .before .before .before .before .before .before .before .before .before .before .before .before .before .before .before .before .args in let w = both-accepted _ _ ((λ i. bothVerdict (removeVerdict (a .chart .now) (a .place) (sym (c .before .before .before .before .before .before .before .before .before .before .before .before .before .before .before .before .entries-in .ensures) i)) (secondVerdict (a .settings .now) (a .chart .now) (removeVerdict (under (a .settings .now) (a .chart .now)) (a .place) (sym (c .before .before .before .before .before .before .before .before .before .before .before .before .before .before .before .entries-in2 .ensures) i)))) ∙ (sym (c .before .before .before .before .before .before .before .before .before .before .before .before .before .before .remove-both .ensures .0) ∙ c .before .before .before .before .before .before .before .before .before .before .enum-told .given .1)) in let f = removed-fits-second (a .chart .now) (a .place) (length (a .second-records .now)) (length (a .second-values .now)) (a .settings .now) (removed (a .chart .now) (a .place) _ (w .0)) (w .1) .1 in omega (arith, f)
 
--- src/lib.rt:429:13
 remove-rows-requires-2 : tie.Need-remove-rows-requires-2
 remove-rows-requires-2 c κs = let a = c .before .before .before .before .before .before .before .before .before .before .before .before .before .before .before .before .before .before .before .before .before .before .before .before .before .before .before .before .args in let w = both-accepted _ _ ((λ i. bothVerdict (removeVerdict (a .chart .now) (a .place) (sym (c .before .before .before .before .before .before .before .before .before .before .before .before .before .before .before .before .before .before .before .before .entries-in .ensures) i)) (secondVerdict (a .settings .now) (a .chart .now) (removeVerdict (under (a .settings .now) (a .chart .now)) (a .place) (sym (c .before .before .before .before .before .before .before .before .before .before .before .before .before .before .before .before .before .before .before .entries-in2 .ensures) i)))) ∙ (sym (c .before .before .before .before .before .before .before .before .before .before .before .before .before .before .before .before .before .before .remove-both .ensures .0) ∙ c .before .before .before .before .before .before .before .before .before .before .before .before .before .before .enum-told .given .1)) in let f = removed-fits-second (a .chart .now) (a .place) (length (a .second-records .now)) (length (a .second-values .now)) (a .settings .now) (removed (a .chart .now) (a .place) _ (w .0)) (w .1) in let q = chart-after _ _ _ _ (c .before .before .before .before .before .before .before .before .before .before .before .before .before .before .before .before .before .before .remove-both .ensures .1) (c .before .before .before .before .before .before .before .before .before .before .before .before .before .before .enum-told .given .1) in rw q (f .0)
 
--- src/lib.rt:401:1
 same-length : tie.Need-same-length
 same-length c = search needs
 
--- src/lib.rt:401:1
 returns : tie.Need-returns
 returns c = let a = c .before .before .before .before .before .before .before .before .before .before .before .before .before .before .before .args in let v = (λ i. bothVerdict (removeVerdict (a .chart .now) (a .place) (sym (c .before .before .before .before .before .before .before .entries-in .ensures) i)) (secondVerdict (a .settings .now) (a .chart .now) (removeVerdict (under (a .settings .now) (a .chart .now)) (a .place) (sym (c .before .before .before .before .before .before .entries-in2 .ensures) i)))) ∙ (sym (c .before .before .before .before .before .remove-both .ensures .0) ∙ c .before .r .given .1) in let q = chart-kept _ _ _ _ (c .before .before .before .before .before .remove-both .ensures .1) (c .before .r .given .1) in (remove-both-is (a .settings .now) (a .chart .now) (a .records .now) (a .values .now) (a .second-records .now) (a .second-values .now) (a .place) _ (sym v), ((λ i. pair (q i) (a .records .now) (a .values .now) (a .second-records .now) (a .second-values .now)) ∙ sym (both-kept (a .settings .now) (remove (a .place)) (pair (a .chart .now) (a .records .now) (a .values .now) (a .second-records .now) (a .second-values .now)) _ (sym (remove-both-is (a .settings .now) (a .chart .now) (a .records .now) (a .values .now) (a .second-records .now) (a .second-values .now) (a .place) _ refl) ∙ v)), refl))
 
--- src/lib.rt:401:1
 same-length-2 : tie.Need-same-length-2
 same-length-2 c = search needs
 
--- src/lib.rt:401:1
 same-length-3 : tie.Need-same-length-3
 same-length-3 c = search needs
 
--- src/lib.rt:401:1
 same-length-4 : tie.Need-same-length-4
 same-length-4 c = search needs
 
--- src/lib.rt:401:1
 same-length-5 : tie.Need-same-length-5
 same-length-5 c = search needs
 
--- src/lib.rt:401:1
 same-length-6 : tie.Need-same-length-6
 same-length-6 c = search needs
 
--- src/lib.rt:401:1
 returns-2 : tie.Need-returns-2
 returns-2 c = let a = c .before .before .before .before .before .before .before .before .before .before .before .before .before .before .before .before .before .before .before .before .before .before .before .before .before .before .before .before .before .before .before .before .before .args in let v = (λ i. bothVerdict (removeVerdict (a .chart .now) (a .place) (sym (c .before .before .before .before .before .before .before .before .before .before .before .before .before .before .before .before .before .before .before .before .before .before .before .before .before .entries-in .ensures) i)) (secondVerdict (a .settings .now) (a .chart .now) (removeVerdict (under (a .settings .now) (a .chart .now)) (a .place) (sym (c .before .before .before .before .before .before .before .before .before .before .before .before .before .before .before .before .before .before .before .before .before .before .before .before .entries-in2 .ensures) i)))) ∙ (sym (c .before .before .before .before .before .before .before .before .before .before .before .before .before .before .before .before .before .before .before .before .before .before .before .remove-both .ensures .0) ∙ c .before .before .before .before .before .before .before .before .before .before .before .before .before .before .before .before .before .before .before .enum-told .given .1) in let q = chart-after _ _ _ _ (c .before .before .before .before .before .before .before .before .before .before .before .before .before .before .before .before .before .before .before .before .before .before .before .remove-both .ensures .1) (c .before .before .before .before .before .before .before .before .before .before .before .before .before .before .before .before .before .before .before .enum-told .given .1) in let n = (ap (λ (b : List ℕ). layoutOf b .n + 1) q ∙ count-more (removed-more (a .chart .now) (a .place) (removed (a .chart .now) (a .place) _ (both-accepted _ _ v .0)) .counts)) in let s = c .before .before .before .before .before .before .before .before .before .before .before .before .before .before .before .before .before .settings-at .ensures ∙ ap settingsOf q in let r = c .before .before .before .before .before .before .before .before .before .before .before .before .before .remove-rows .ensures .0 ∙ (λ i. editRecords (s i) (q i) (a .place) (removedRecords (a .place)) (rowsDown recordWidth (firstMoved (a .place)) (n i) (a .records .now))) in let w = c .before .before .before .before .before .before .before .before .before .before .before .before .before .remove-rows .ensures .1 ∙ (λ i. editValues (s i) (q i) (a .place) (removedValues (a .place)) (r i) (rowsDown valueWidth (firstMoved (a .place)) (n i) (a .values .now))) in let s2 = c .before .before .before .before .before .before .before .before .settings-at2 .ensures in let r2 = c .before .before .before .before .remove-rows2 .ensures .0 ∙ (λ i. editRecords (s2 i) (q i) (a .place) (removedRecords (a .place)) (rowsDown recordWidth (firstMoved (a .place)) (n i) (a .second-records .now))) in let w2 = c .before .before .before .before .remove-rows2 .ensures .1 ∙ (λ i. editValues (s2 i) (q i) (a .place) (removedValues (a .place)) (r2 i) (rowsDown valueWidth (firstMoved (a .place)) (n i) (a .second-values .now))) in (remove-both-is (a .settings .now) (a .chart .now) (a .records .now) (a .values .now) (a .second-records .now) (a .second-values .now) (a .place) _ (sym v), ((λ i. pair (q i) (r i) (w i) (r2 i) (w2 i)) ∙ sym (remove-both-left (a .settings .now) (a .chart .now) (a .records .now) (a .values .now) (a .second-records .now) (a .second-values .now) (a .place) v), refl))
 

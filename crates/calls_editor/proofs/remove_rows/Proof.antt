@@ -1,3 +1,4 @@
+-- `calls_editor::remove_rows` meets its contract. Assumes nothing.
 use Rattle.calls.specs.Calls.{insertedValues, removedValues, editRecords, editValues}
 use Rattle.calls.specs.Tables.{recordWidth, valueWidth}
 use Rattle.num_tables.specs.Moves.{length-rowsUp, length-rowsDown}
@@ -10,64 +11,43 @@ use mathlib.Core.Path.{refl, sym, ap, _∙_}
 use borrow.Author.Needs.{needs}
 use Rattle.calls_editor.proofs.remove_rows.Statement.{statement}
 use Rattle.calls_editor.proofs.remove_rows.Tie as tie
-use Rattle.calls_editor.proofs.remove_rows.Reads as reads
-use Rattle.calls_editor.proofs.remove_rows.Lts as lts
-use Rattle.chart_opening.proofs.layout_of.Reads as layout-of-reads
-use Rattle.calls_editor.proofs.bring_up_to_date.Reads as bring-up-to-date-reads
-use Rattle.calls_editor.proofs.from_one.Reads as from-one-reads
-use Rattle.calls_editor.proofs.larger.Reads as larger-reads
-use Rattle.calls_editor.proofs.records_down.Reads as records-down-reads
-use Rattle.calls_editor.proofs.values_down.Reads as values-down-reads
 
--- src/lib.rt:301:13
 layout-of-requires : tie.Need-layout-of-requires
 layout-of-requires c κs = search needs
 
--- src/lib.rt:302:9
 from-one-requires : tie.Need-from-one-requires
 from-one-requires c κs = search needs
 
--- src/lib.rt:303:33
 add-records-down : tie.Need-add-records-down
 add-records-down c = let f = c .before .before .before .before .before .before .pre .0 in let l = ap (λ (x : Layout). x .n) (c .before .before .layout-of .ensures) in omega (arith, f .few, l)
 
--- src/lib.rt:303:5
 records-down-requires : tie.Need-records-down-requires
 records-down-requires c κs = let p = c .before .before .before .before .before .before .pre in let l = ap (λ (x : Layout). x .n) (c .before .before .layout-of .ensures) in (omega (arith, l, c .before .from-one .ensures, p .1), omega (arith, p .2, l))
 
--- src/lib.rt:304:31
 add-values-down : tie.Need-add-values-down
 add-values-down c = let f = c .before .before .before .before .before .before .before .before .before .before .pre .0 in let l = ap (λ (x : Layout). x .n) (c .before .before .before .before .before .before .layout-of .ensures) in omega (arith, f .few, l)
 
--- src/lib.rt:304:5
 values-down-requires : tie.Need-values-down-requires
 values-down-requires c κs = let p = c .before .before .before .before .before .before .before .before .before .before .pre in let l = ap (λ (x : Layout). x .n) (c .before .before .before .before .before .before .layout-of .ensures) in (omega (arith, l, c .before .before .before .before .before .from-one .ensures, p .1), omega (arith, p .3, l))
 
--- src/lib.rt:305:22
 add-larger : tie.Need-add-larger
 add-larger c = search needs
 
--- src/lib.rt:305:9
 larger-requires : tie.Need-larger-requires
 larger-requires c κs = search needs
 
--- src/lib.rt:306:46
 add-bring-up-to-date : tie.Need-add-bring-up-to-date
 add-bring-up-to-date c = search needs
 
--- src/lib.rt:306:5
 bring-up-to-date-requires : tie.Need-bring-up-to-date-requires
 bring-up-to-date-requires c κs = let p = c .before .before .before .before .before .before .before .before .before .before .before .before .before .before .before .before .pre in let f = p .0 in let l = ap (λ (x : Layout). x .n) (c .before .before .before .before .before .before .before .before .before .before .before .before .layout-of .ensures) in let r = ap length (c .before .before .before .before .before .before .before .before .before .records-down .ensures) ∙ length-rowsDown recordWidth _ _ _ (λ q. omega (arith, p .2, l)) in let v = ap length (c .before .before .before .before .before .values-down .ensures) ∙ length-rowsDown valueWidth _ _ _ (λ q. omega (arith, p .3, l)) in record { ready = f .ready; long = f .long; few = f .few; records = omega (arith, f .records, r); values = omega (arith, f .values, v) }
 
--- src/lib.rt:287:1
 same-length : tie.Need-same-length
 same-length c = search needs
 
--- src/lib.rt:287:1
 same-length-2 : tie.Need-same-length-2
 same-length-2 c = search needs
 
--- src/lib.rt:287:1
 returns : tie.Need-returns
 returns c = let a = c .before .before .before .before .before .before .before .before .before .before .before .before .before .before .before .before .before .before .before .before .before .args in let b = a .chart .now in let k = a .place in let l = ap (λ (x : Layout). x .n) (c .before .before .before .before .before .before .before .before .before .before .before .before .before .before .before .before .before .layout-of .ensures) in let from = c .before .before .before .before .before .before .before .before .before .before .before .before .before .before .before .before .from-one .ensures in let rows = c .before .before .before .before .before .before .before .before .before .before .before .before .before .before .records-down .ensures ∙ (λ i. rowsDown recordWidth (from i) (l i + 1) (a .records .now)) in let more = c .before .before .before .before .before .before .before .before .before .before .values-down .ensures ∙ (λ i. rowsDown valueWidth (from i) (l i + 1) (a .values .now)) in (c .before .before .before .before .bring-up-to-date .ensures .0 ∙ (λ i. editRecords (a .set) b k (c .before .before .before .before .before .before .before .larger .ensures i) (rows i)), c .before .before .before .before .bring-up-to-date .ensures .1 ∙ ap (editValues (a .set) b k (removedValues k) _) more)
 

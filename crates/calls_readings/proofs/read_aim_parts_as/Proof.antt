@@ -1,3 +1,4 @@
+-- `calls_readings::read_aim_parts_as` meets its contract. Assumes nothing.
 use Rattle.chart_opening.specs.Header.{settingsAt, settingsOf}
 use Rattle.calls.specs.Afresh.{aimParts}
 use Rattle.calls.specs.Calls.{detailIs, result}

@@ -1,3 +1,4 @@
+-- `calls_readings::read_record_as` meets its contract. Assumes nothing.
 use Rattle.chart_players.specs.Under.{framed-under}
 use Rattle.chart_opening.proofs.Header.{framed, holds-framed}
 use Rattle.calls_players.specs.Same.{count-under}

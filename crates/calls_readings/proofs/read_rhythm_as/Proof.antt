@@ -1,3 +1,4 @@
+-- `calls_readings::read_rhythm_as` meets its contract. Assumes nothing.
 use Rattle.chart_opening.specs.declared.Settings.{Settings}
 use Rattle.calls.specs.Afresh.{rhythm, detailFrom}
 use Rattle.calls.specs.Calls.{detailIs, result}

@@ -1,3 +1,4 @@
+-- `calls_readings::read_values_as` meets its contract. Assumes nothing.
 use Rattle.calls.proofs.Refusals.{accepted-read}
 use Rattle.calls.specs.Calls.{valuesAre, result}
 use Rattle.calls_readings.proofs.OutcomesAs.{values-refused, values-read, passed}

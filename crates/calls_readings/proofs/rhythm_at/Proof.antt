@@ -1,3 +1,4 @@
+-- `calls_readings::rhythm_at` meets its contract. Assumes nothing.
 use Rattle.calls_readings.proofs.Details.{placed, rhythm-found}
 use Rattle.chart_opening.proofs.Header.{framed}
 use Rattle.calls_readings.proofs.rhythm_at.Statement.{statement}

@@ -1,3 +1,4 @@
+-- `chart_opening::check_under` meets its contract. Assumes nothing.
 use mathlib.Core.Path.{sym, _∙_}
 use native.Mathlib.Omega.{arith}
 use borrow.Author.Tests.{lt-ltb, le-ltb, not-true, not-false}
@@ -6,46 +7,32 @@ use Rattle.chart_opening.proofs.Body.{body-refuses, body-accepts}
 use borrow.Author.Needs.{needs}
 use Rattle.chart_opening.proofs.check_under.Statement.{statement}
 use Rattle.chart_opening.proofs.check_under.Tie as tie
-use Rattle.chart_opening.proofs.check_under.Reads as reads
-use Rattle.chart_opening.proofs.check_under.Lts as lts
-use Rattle.chart_opening.proofs.check_body.Reads as check-body-reads
-use Rattle.chart_opening.proofs.layout_of.Reads as layout-of-reads
-use Rattle.chart_opening.proofs.settings_ok.Reads as settings-ok-reads
 
--- src/lib.rt:243:9
 layout-of-requires : tie.Need-layout-of-requires
 layout-of-requires c κs = search needs
 
--- src/lib.rt:244:9
 settings-ok-requires : tie.Need-settings-ok-requires
 settings-ok-requires c κs = search needs
 
--- src/lib.rt:245:9
 returns : tie.Need-returns
 unfolding underConditions firstOf
 returns c = simp (sym (c .before .settings-ok .ensures) ∙ not-true _ (c .if1 .taken))
 
--- src/lib.rt:247:11
 check-body-requires : tie.Need-check-body-requires
 check-body-requires c κs = rw (c .before .before .layout-of .ensures) (c .before .before .before .before .pre .1)
 
--- src/lib.rt:248:26
 enum-known-r : tie.Need-enum-known-r
 enum-known-r c = search needs
 
--- src/lib.rt:250:16
 enum-told : tie.Need-enum-told
 enum-told c = search needs
 
--- src/lib.rt:239:1
 returns-2 : tie.Need-returns-2
 returns-2 c = sym (body-refuses _ _ _ (c .before .before .before .before .before .before .layout-of .ensures) (sym (c .before .before .before .before .before .settings-ok .ensures) ∙ not-false _ (c .before .before .before .before .if1 .left)) (c .before .before .before .check-body .ensures) _ (c .before .r .given .1))
 
--- src/lib.rt:239:1
 returns-3 : tie.Need-returns-3
 returns-3 c = sym (body-accepts _ _ _ (c .before .before .before .before .before .before .before .layout-of .ensures) (sym (c .before .before .before .before .before .before .settings-ok .ensures) ∙ not-false _ (c .before .before .before .before .before .if1 .left)) (c .before .before .before .before .check-body .ensures) (c .before .before .enum-told .given .1) ∙ simp (lt-ltb (c .before .before .before .before .before .before .before .before .before .args .entries) (c .before .before .before .before .before .before .before .layout-of .result .n) (omega (arith, c .if2 .taken))))
 
--- src/lib.rt:239:1
 returns-4 : tie.Need-returns-4
 returns-4 c = sym (body-accepts _ _ _ (c .before .before .before .before .before .before .before .layout-of .ensures) (sym (c .before .before .before .before .before .before .settings-ok .ensures) ∙ not-false _ (c .before .before .before .before .before .if1 .left)) (c .before .before .before .before .check-body .ensures) (c .before .before .enum-told .given .1) ∙ simp (le-ltb (c .before .before .before .before .before .before .before .before .before .args .entries) (c .before .before .before .before .before .before .before .layout-of .result .n) (omega (arith, c .if2 .left))))
 

@@ -1,3 +1,4 @@
+-- `chart_opening::header_ok` meets its contract. Assumes nothing.
 use mathlib.Core.Path.{sym, _∙_}
 use native.Mathlib.Omega.{arith}
 use borrow.Author.Tests.{not-true, not-false}
@@ -6,30 +7,20 @@ use Rattle.chart_opening.proofs.Header.{framed}
 use borrow.Author.Needs.{needs}
 use Rattle.chart_opening.proofs.header_ok.Statement.{statement}
 use Rattle.chart_opening.proofs.header_ok.Tie as tie
-use Rattle.chart_opening.proofs.header_ok.Reads as reads
-use Rattle.chart_opening.proofs.header_ok.Lts as lts
-use Rattle.chart_opening.proofs.flags_ok.Reads as flags-ok-reads
-use Rattle.chart_opening.proofs.frame_ok.Reads as frame-ok-reads
-use Rattle.num_floats.proofs.u32_at.Reads as u32-at-reads
 
--- src/lib.rt:157:9
 frame-ok-requires : tie.Need-frame-ok-requires
 frame-ok-requires c κs = search needs
 
--- src/lib.rt:158:9
 returns : tie.Need-returns
 unfolding headerOk
 returns c = simp (sym (c .before .frame-ok .ensures) ∙ not-true _ (c .if1 .taken))
 
--- src/lib.rt:160:14
 u32-at-requires : tie.Need-u32-at-requires
 u32-at-requires c κs = let l = framed _ (sym (c .before .frame-ok .ensures) ∙ not-false _ (c .if1 .left)) .long in omega (arith, l)
 
--- src/lib.rt:160:5
 flags-ok-requires : tie.Need-flags-ok-requires
 flags-ok-requires c κs = search needs
 
--- src/lib.rt:154:1
 returns-2 : tie.Need-returns-2
 unfolding headerOk
 returns-2 c = simp (sym (c .before .before .before .frame-ok .ensures) ∙ not-false _ (c .before .before .if1 .left), c .flags-ok .ensures, c .before .u32-at .ensures)

@@ -1,3 +1,4 @@
+-- `chart_players::check_as` meets its contract. Assumes nothing.
 use Rattle.chart_opening.specs.Conditions.{firstOf, underConditions}
 use Rattle.chart_opening.proofs.Header.{framed, holds-framed}
 use Rattle.chart_players.specs.Under.{framed-under}
@@ -7,33 +8,22 @@ use mathlib.Core.Path.{sym, ap, _∙_}
 use borrow.Author.Needs.{needs}
 use Rattle.chart_players.proofs.check_as.Statement.{statement}
 use Rattle.chart_players.proofs.check_as.Tie as tie
-use Rattle.chart_players.proofs.check_as.Reads as reads
-use Rattle.chart_players.proofs.check_as.Lts as lts
-use Rattle.chart_opening.proofs.check_under.Reads as check-under-reads
-use Rattle.chart_opening.proofs.settings_at.Reads as settings-at-reads
-use Rattle.chart_players.proofs.header_ok_as.Reads as header-ok-as-reads
 
--- src/lib.rt:38:9
 header-ok-as-requires : tie.Need-header-ok-as-requires
 header-ok-as-requires c κs = search needs
 
--- src/lib.rt:39:9
 returns : tie.Need-returns
 returns c = let a = c .before .before .before .before .args in sym (second-header (a .settings .now) (a .chart .now) _ (sym (c .before .header-ok-as .ensures) ∙ not-true _ (c .if1 .taken)))
 
--- src/lib.rt:42:9
 returns-2 : tie.Need-returns-2
 returns-2 c = let a = c .before .before .before .before .before .args in sym (second-size (a .settings .now) (a .chart .now) _ (sym (c .before .before .header-ok-as .ensures) ∙ not-false _ (c .before .if1 .left)) (ne-eqb _ _ (c .if2 .taken)))
 
--- src/lib.rt:44:39
 settings-at-requires : tie.Need-settings-at-requires
 settings-at-requires c κs = search needs
 
--- src/lib.rt:44:5
 check-under-requires : tie.Need-check-under-requires
 check-under-requires c κs = let a = c .before .before .before .before .before .before .args in let h = sym (c .before .before .before .header-ok-as .ensures) ∙ not-false _ (c .before .before .if1 .left) in (long-enough (a .settings .now) (a .chart .now) h (c .before .if2 .left), holds-framed (a .chart .now) (framed (a .chart .now) (framed-under (a .settings .now) (a .chart .now) h)))
 
--- src/lib.rt:35:1
 returns-3 : tie.Need-returns-3
 returns-3 c = let a = c .before .before .before .before .before .before .before .args in let h = sym (c .before .before .before .before .header-ok-as .ensures) ∙ not-false _ (c .before .before .before .if1 .left) in let i = c .before .before .if2 .left in (c .check-under .ensures ∙ ap (λ s. firstOf (underConditions (a .chart .now) s (a .entries))) (c .before .settings-at .ensures)) ∙ sym (second-passed (a .settings .now) (a .chart .now) _ h (eq-eqb _ _ i) ∙ open-under (a .settings .now) (a .chart .now) h i (a .entries))
 

@@ -1,3 +1,4 @@
+-- `chart_players::check_insert_as` meets its contract. Assumes nothing.
 use Rattle.chart_fields.specs.Objects.{fieldsAt}
 use Rattle.chart_inserting.specs.Insert.{insertPlaceConditions, insertVerdict}
 use Rattle.chart_players.specs.Second.{under}
@@ -17,56 +18,37 @@ use mathlib.Core.Path.{sym, ap, _∙_}
 use borrow.Author.Needs.{needs}
 use Rattle.chart_players.proofs.check_insert_as.Statement.{statement}
 use Rattle.chart_players.proofs.check_insert_as.Tie as tie
-use Rattle.chart_players.proofs.check_insert_as.Reads as reads
-use Rattle.chart_players.proofs.check_insert_as.Lts as lts
-use Rattle.chart_fields.proofs.fields_at.Reads as fields-at-reads
-use Rattle.chart_inserting.proofs.long_with.Reads as long-with-reads
-use Rattle.chart_opening.proofs.layout_of.Reads as layout-of-reads
-use Rattle.chart_opening.proofs.settings_at.Reads as settings-at-reads
-use Rattle.chart_players.proofs.check_other.Reads as check-other-reads
-use Rattle.chart_players.proofs.length_verdict.Reads as length-verdict-reads
 
--- src/lib.rt:159:9
 layout-of-requires : tie.Need-layout-of-requires
 layout-of-requires c κs = parts _ (header-ok _ (c .before .before .before .pre .opens)) .long
 
--- src/lib.rt:160:40
 add-check-other : tie.Need-add-check-other
 add-check-other c = let f = holds _ (header-ok _ (c .before .before .before .before .before .pre .opens)) .few in let l = ap (λ (x : Layout). x .n) (c .before .layout-of .ensures) in omega (arith, f, l)
 
--- src/lib.rt:160:11
 check-other-requires : tie.Need-check-other-requires
 check-other-requires c κs = search needs
 
--- src/lib.rt:161:26
 enum-known-r : tie.Need-enum-known-r
 enum-known-r c = search needs
 
--- src/lib.rt:163:17
 enum-told : tie.Need-enum-told
 enum-told c = search needs
 
--- src/lib.rt:163:17
 settings-at-requires : tie.Need-settings-at-requires
 settings-at-requires c κs = let a = c .before .before .before .before .before .before .before .before .args in let s = edit-settings (a .settings .now) (a .chart .now) (a .entries) (insertVerdict (under (a .settings .now) (a .chart .now)) (a .place) (a .object .now) (a .entries)) (insertPlaceConditions (under (a .settings .now) (a .chart .now)) (a .place) (a .object .now)) (layoutOf (a .chart .now) .n + 1) (insert-tried (a .settings .now) (a .chart .now) (a .entries) (a .place) (a .object .now)) (ap (λ (l : Layout). l .n + 1) (c .before .before .before .before .layout-of .ensures)) (c .before .before .check-other .ensures) (c .enum-told .given .1) .1 in omega (arith, s)
 
--- src/lib.rt:164:17
 fields-at-requires : tie.Need-fields-at-requires
 fields-at-requires c κs = let f = holds _ (header-ok _ (c .before .before .before .before .before .before .before .before .before .pre .opens)) .size-least in let l = ap (λ (x : Layout). x .«object_size») (c .before .before .before .before .before .layout-of .ensures) in (omega (arith, f, l), omega (arith, c .before .before .before .before .before .before .before .before .before .pre .long, l))
 
--- src/lib.rt:165:28
 long-with-requires : tie.Need-long-with-requires
 long-with-requires c κs = (rw (c .before .before .before .before .before .before .layout-of .ensures) (holds _ (header-ok _ (c .before .before .before .before .before .before .before .before .before .before .pre .opens))), rw (c .before .before .before .before .before .before .layout-of .ensures) (c .before .before .before .before .before .before .before .before .before .before .pre .at))
 
--- src/lib.rt:165:13
 length-verdict-requires : tie.Need-length-verdict-requires
 length-verdict-requires c κs = search needs
 
--- src/lib.rt:148:1
 returns : tie.Need-returns
 returns c = let a = c .before .before .before .before .before .before .before .before .before .args in edit-refused (a .settings .now) (a .chart .now) (a .entries) (insertVerdict (under (a .settings .now) (a .chart .now)) (a .place) (a .object .now) (a .entries)) (insertPlaceConditions (under (a .settings .now) (a .chart .now)) (a .place) (a .object .now)) (layoutOf (a .chart .now) .n + 1) (insert-tried (a .settings .now) (a .chart .now) (a .entries) (a .place) (a .object .now)) (ap (λ (l : Layout). l .n + 1) (c .before .before .before .before .before .layout-of .ensures)) (c .before .before .before .check-other .ensures) (c .before .r .given .1)
 
--- src/lib.rt:148:1
 returns-2 : tie.Need-returns-2
 returns-2 c = let a = c .before .before .before .before .before .before .before .before .before .before .before .before .args in let s = edit-settings (a .settings .now) (a .chart .now) (a .entries) (insertVerdict (under (a .settings .now) (a .chart .now)) (a .place) (a .object .now) (a .entries)) (insertPlaceConditions (under (a .settings .now) (a .chart .now)) (a .place) (a .object .now)) (layoutOf (a .chart .now) .n + 1) (insert-tried (a .settings .now) (a .chart .now) (a .entries) (a .place) (a .object .now)) (ap (λ (l : Layout). l .n + 1) (c .before .before .before .before .before .before .before .before .layout-of .ensures)) (c .before .before .before .before .before .before .check-other .ensures) (c .before .before .before .before .enum-told .given .1) in let fj = c .before .before .fields-at .ensures ∙ ap (λ (l : Layout). fieldsAt (a .object .now) 0 (l .«object_size»)) (c .before .before .before .before .before .before .before .before .layout-of .ensures) in edit-passed (a .settings .now) (a .chart .now) (a .entries) (insertVerdict (under (a .settings .now) (a .chart .now)) (a .place) (a .object .now) (a .entries)) (insertPlaceConditions (under (a .settings .now) (a .chart .now)) (a .place) (a .object .now)) (layoutOf (a .chart .now) .n + 1) (insert-tried (a .settings .now) (a .chart .now) (a .entries) (a .place) (a .object .now)) (ap (λ (l : Layout). l .n + 1) (c .before .before .before .before .before .before .before .before .layout-of .ensures)) (c .before .before .before .before .before .before .check-other .ensures) (c .before .before .before .before .enum-told .given .1) (insert-after (a .settings .now) (a .chart .now) (s .0) (s .1) (a .place) (a .object .now) (c .before .before .before .before .before .before .before .before .before .before .before .before .pre) ∙ sym (λ j. refuseIf (longWith (a .chart .now) (c .before .before .before .before .before .before .before .before .layout-of .ensures j) (c .before .before .before .settings-at .ensures j .«clock_rate») (a .place) (fj j)) Length) ∙ sym (c .length-verdict .ensures ∙ ap (λ b. refuseIf b Length) (c .before .long-with .ensures)))
 

@@ -1,3 +1,4 @@
+-- `chart_players::check_other` meets its contract. Assumes nothing.
 use Rattle.chart_opening.proofs.Header.{parts, holds}
 use Rattle.chart_opening.specs.Accepted.{header-ok}
 use Rattle.chart_opening.specs.Conditions.{firstOf}
@@ -9,58 +10,40 @@ use mathlib.Core.Path.{sym, ap, _∙_}
 use borrow.Author.Needs.{needs}
 use Rattle.chart_players.proofs.check_other.Statement.{statement}
 use Rattle.chart_players.proofs.check_other.Tie as tie
-use Rattle.chart_players.proofs.check_other.Reads as reads
-use Rattle.chart_players.proofs.check_other.Lts as lts
-use Rattle.chart_opening.proofs.layout_of.Reads as layout-of-reads
-use Rattle.chart_opening.proofs.settings_at.Reads as settings-at-reads
-use Rattle.chart_opening.proofs.settings_ok.Reads as settings-ok-reads
-use Rattle.chart_opening.proofs.too_long.Reads as too-long-reads
-use Rattle.chart_players.proofs.header_ok_as.Reads as header-ok-as-reads
 
--- src/lib.rt:52:9
 header-ok-as-requires : tie.Need-header-ok-as-requires
 header-ok-as-requires c κs = search needs
 
--- src/lib.rt:53:9
 returns : tie.Need-returns
 returns c = let a = c .before .before .before .before .args in sym (second-header (a .settings .now) (a .chart .now) _ (sym (c .before .header-ok-as .ensures) ∙ not-true _ (c .if1 .taken)))
 
--- src/lib.rt:56:9
 returns-2 : tie.Need-returns-2
 returns-2 c = let a = c .before .before .before .before .before .args in sym (second-size (a .settings .now) (a .chart .now) _ (sym (c .before .before .header-ok-as .ensures) ∙ not-false _ (c .before .if1 .left)) (ne-eqb _ _ (c .if2 .taken)))
 
--- src/lib.rt:58:9
 settings-at-requires : tie.Need-settings-at-requires
 settings-at-requires c κs = search needs
 
--- src/lib.rt:59:9
 settings-ok-requires : tie.Need-settings-ok-requires
 settings-ok-requires c κs = search needs
 
--- src/lib.rt:60:9
 returns-3 : tie.Need-returns-3
 unfolding firstOf
 returns-3 c = let a = c .before .before .before .before .before .before .before .before .args in let h = sym (c .before .before .before .before .before .header-ok-as .ensures) ∙ not-false _ (c .before .before .before .before .if1 .left) in let i = c .before .before .before .if2 .left in sym (tried-other (a .settings .now) (a .chart .now) (a .entries) h i (c .before .before .before .before .before .before .before .before .pre) (a .least) ∙ simp (ap settingsOk (sym (c .before .before .settings-at .ensures)) ∙ (sym (c .before .settings-ok .ensures) ∙ not-true _ (c .if3 .taken))))
 
--- src/lib.rt:62:9
 layout-of-requires : tie.Need-layout-of-requires
 layout-of-requires c κs = parts _ (header-ok _ (c .before .before .before .before .before .before .before .before .pre)) .long
 
--- src/lib.rt:63:8
 too-long-requires : tie.Need-too-long-requires
 too-long-requires c κs = rw (c .layout-of .ensures) (holds _ (header-ok _ (c .before .before .before .before .before .before .before .before .before .pre)))
 
--- src/lib.rt:64:9
 returns-4 : tie.Need-returns-4
 unfolding firstOf
 returns-4 c = let a = c .before .before .before .before .before .before .before .before .before .before .before .args in let h = sym (c .before .before .before .before .before .before .before .before .header-ok-as .ensures) ∙ not-false _ (c .before .before .before .before .before .before .before .if1 .left) in let i = c .before .before .before .before .before .before .if2 .left in sym (tried-other (a .settings .now) (a .chart .now) (a .entries) h i (c .before .before .before .before .before .before .before .before .before .before .before .pre) (a .least) ∙ simp (ap settingsOk (sym (c .before .before .before .before .before .settings-at .ensures)) ∙ (sym (c .before .before .before .before .settings-ok .ensures) ∙ not-false _ (c .before .before .before .if3 .left)), (λ j. tooLong (a .chart .now) (sym (c .before .before .layout-of .ensures) j) (sym (c .before .before .before .before .before .settings-at .ensures) j .«clock_rate»)) ∙ (sym (c .before .too-long .ensures) ∙ c .if4 .taken)))
 
--- src/lib.rt:67:9
 returns-5 : tie.Need-returns-5
 unfolding firstOf
 returns-5 c = let a = c .before .before .before .before .before .before .before .before .before .before .before .before .args in let h = sym (c .before .before .before .before .before .before .before .before .before .header-ok-as .ensures) ∙ not-false _ (c .before .before .before .before .before .before .before .before .if1 .left) in let i = c .before .before .before .before .before .before .before .if2 .left in sym (tried-other (a .settings .now) (a .chart .now) (a .entries) h i (c .before .before .before .before .before .before .before .before .before .before .before .before .pre) (a .least) ∙ simp (ap settingsOk (sym (c .before .before .before .before .before .before .settings-at .ensures)) ∙ (sym (c .before .before .before .before .before .settings-ok .ensures) ∙ not-false _ (c .before .before .before .before .if3 .left)), (λ j. tooLong (a .chart .now) (sym (c .before .before .before .layout-of .ensures) j) (sym (c .before .before .before .before .before .before .settings-at .ensures) j .«clock_rate»)) ∙ (sym (c .before .before .too-long .ensures) ∙ c .before .if4 .left), lt-ltb (a .entries) (a .least) (c .if5 .taken)))
 
--- src/lib.rt:48:1
 returns-6 : tie.Need-returns-6
 unfolding firstOf
 returns-6 c = let a = c .before .before .before .before .before .before .before .before .before .before .before .before .args in let h = sym (c .before .before .before .before .before .before .before .before .before .header-ok-as .ensures) ∙ not-false _ (c .before .before .before .before .before .before .before .before .if1 .left) in let i = c .before .before .before .before .before .before .before .if2 .left in sym (tried-other (a .settings .now) (a .chart .now) (a .entries) h i (c .before .before .before .before .before .before .before .before .before .before .before .before .pre) (a .least) ∙ simp (ap settingsOk (sym (c .before .before .before .before .before .before .settings-at .ensures)) ∙ (sym (c .before .before .before .before .before .settings-ok .ensures) ∙ not-false _ (c .before .before .before .before .if3 .left)), (λ j. tooLong (a .chart .now) (sym (c .before .before .before .layout-of .ensures) j) (sym (c .before .before .before .before .before .before .settings-at .ensures) j .«clock_rate»)) ∙ (sym (c .before .before .too-long .ensures) ∙ c .before .if4 .left), le-ltb (a .entries) (a .least) (c .if5 .left)))

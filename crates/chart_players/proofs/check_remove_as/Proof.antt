@@ -1,3 +1,4 @@
+-- `chart_players::check_remove_as` meets its contract. Assumes nothing.
 use Rattle.chart_inserting.specs.Insert.{removePlaceConditions, removeVerdict}
 use Rattle.chart_players.specs.Second.{under}
 use Rattle.chart_inserting.specs.Local.{longWithout}
@@ -16,47 +17,31 @@ use mathlib.Core.Path.{sym, ap, _∙_}
 use borrow.Author.Needs.{needs}
 use Rattle.chart_players.proofs.check_remove_as.Statement.{statement}
 use Rattle.chart_players.proofs.check_remove_as.Tie as tie
-use Rattle.chart_players.proofs.check_remove_as.Reads as reads
-use Rattle.chart_players.proofs.check_remove_as.Lts as lts
-use Rattle.chart_inserting.proofs.long_without.Reads as long-without-reads
-use Rattle.chart_opening.proofs.layout_of.Reads as layout-of-reads
-use Rattle.chart_opening.proofs.settings_at.Reads as settings-at-reads
-use Rattle.chart_players.proofs.check_other.Reads as check-other-reads
-use Rattle.chart_players.proofs.length_verdict.Reads as length-verdict-reads
 
--- src/lib.rt:218:9
 layout-of-requires : tie.Need-layout-of-requires
 layout-of-requires c κs = parts _ (header-ok _ (c .before .before .pre .opens)) .long
 
--- src/lib.rt:219:11
 check-other-requires : tie.Need-check-other-requires
 check-other-requires c κs = search needs
 
--- src/lib.rt:220:26
 enum-known-r : tie.Need-enum-known-r
 enum-known-r c = search needs
 
--- src/lib.rt:222:17
 enum-told : tie.Need-enum-told
 enum-told c = search needs
 
--- src/lib.rt:222:17
 settings-at-requires : tie.Need-settings-at-requires
 settings-at-requires c κs = let a = c .before .before .before .before .before .before .args in let s = edit-settings (a .settings .now) (a .chart .now) (a .entries) (removeVerdict (under (a .settings .now) (a .chart .now)) (a .place) (a .entries)) (removePlaceConditions (under (a .settings .now) (a .chart .now)) (a .place)) (layoutOf (a .chart .now) .n) (remove-tried (a .settings .now) (a .chart .now) (a .entries) (a .place)) (ap (λ (l : Layout). l .n) (c .before .before .before .layout-of .ensures)) (c .before .before .check-other .ensures) (c .enum-told .given .1) .1 in omega (arith, s)
 
--- src/lib.rt:223:28
 long-without-requires : tie.Need-long-without-requires
 long-without-requires c κs = rw (c .before .before .before .before .layout-of .ensures) (holds _ (header-ok _ (c .before .before .before .before .before .before .before .pre .opens)))
 
--- src/lib.rt:223:13
 length-verdict-requires : tie.Need-length-verdict-requires
 length-verdict-requires c κs = search needs
 
--- src/lib.rt:213:1
 returns : tie.Need-returns
 returns c = let a = c .before .before .before .before .before .before .before .args in edit-refused (a .settings .now) (a .chart .now) (a .entries) (removeVerdict (under (a .settings .now) (a .chart .now)) (a .place) (a .entries)) (removePlaceConditions (under (a .settings .now) (a .chart .now)) (a .place)) (layoutOf (a .chart .now) .n) (remove-tried (a .settings .now) (a .chart .now) (a .entries) (a .place)) (ap (λ (l : Layout). l .n) (c .before .before .before .before .layout-of .ensures)) (c .before .before .before .check-other .ensures) (c .before .r .given .1)
 
--- src/lib.rt:213:1
 returns-2 : tie.Need-returns-2
 returns-2 c = let a = c .before .before .before .before .before .before .before .before .before .args in let s = edit-settings (a .settings .now) (a .chart .now) (a .entries) (removeVerdict (under (a .settings .now) (a .chart .now)) (a .place) (a .entries)) (removePlaceConditions (under (a .settings .now) (a .chart .now)) (a .place)) (layoutOf (a .chart .now) .n) (remove-tried (a .settings .now) (a .chart .now) (a .entries) (a .place)) (ap (λ (l : Layout). l .n) (c .before .before .before .before .before .before .layout-of .ensures)) (c .before .before .before .before .before .check-other .ensures) (c .before .before .before .enum-told .given .1) in edit-passed (a .settings .now) (a .chart .now) (a .entries) (removeVerdict (under (a .settings .now) (a .chart .now)) (a .place) (a .entries)) (removePlaceConditions (under (a .settings .now) (a .chart .now)) (a .place)) (layoutOf (a .chart .now) .n) (remove-tried (a .settings .now) (a .chart .now) (a .entries) (a .place)) (ap (λ (l : Layout). l .n) (c .before .before .before .before .before .before .layout-of .ensures)) (c .before .before .before .before .before .check-other .ensures) (c .before .before .before .enum-told .given .1) (remove-after (a .settings .now) (a .chart .now) (s .0) (s .1) (a .place) (c .before .before .before .before .before .before .before .before .before .pre) ∙ sym (λ j. refuseIf (longWithout (a .chart .now) (c .before .before .before .before .before .before .layout-of .ensures j) (c .before .before .settings-at .ensures j .«clock_rate») (a .place)) Length) ∙ sym (c .length-verdict .ensures ∙ ap (λ b. refuseIf b Length) (c .before .long-without .ensures)))
 

@@ -1,35 +1,26 @@
+-- `chart_players::check_remove_both` meets its contract. Assumes nothing.
 use Rattle.chart_inserting.specs.Accepted.{removed}
 use Rattle.chart_players.specs.Verdicts.{both-first, both-second}
 use mathlib.Core.Path.{sym, ap, _∙_}
 use borrow.Author.Needs.{needs}
 use Rattle.chart_players.proofs.check_remove_both.Statement.{statement}
 use Rattle.chart_players.proofs.check_remove_both.Tie as tie
-use Rattle.chart_players.proofs.check_remove_both.Reads as reads
-use Rattle.chart_players.proofs.check_remove_both.Lts as lts
-use Rattle.chart_inserting.proofs.check_remove.Reads as check-remove-reads
-use Rattle.chart_players.proofs.check_remove_as.Reads as check-remove-as-reads
 
--- src/lib.rt:240:11
 check-remove-requires : tie.Need-check-remove-requires
 check-remove-requires c κs = search needs
 
--- src/lib.rt:241:26
 enum-known-r : tie.Need-enum-known-r
 enum-known-r c = search needs
 
--- src/lib.rt:242:30
 enum-told : tie.Need-enum-told
 enum-told c = search needs
 
--- src/lib.rt:242:30
 check-remove-as-requires : tie.Need-check-remove-as-requires
 check-remove-as-requires c κs = let a = c .before .before .before .before .before .args in removed (a .chart .now) (a .place) (a .entries) (sym (c .before .before .check-remove .ensures) ∙ c .enum-told .given .1)
 
--- src/lib.rt:229:1
 returns : tie.Need-returns
 returns c = sym (both-first _ _ _ (sym (c .before .before .before .check-remove .ensures) ∙ c .before .r .given .1))
 
--- src/lib.rt:229:1
 returns-2 : tie.Need-returns-2
 returns-2 c = c .check-remove-as .ensures ∙ sym (both-second _ _ (sym (c .before .before .before .check-remove .ensures) ∙ c .before .enum-told .given .1))
 

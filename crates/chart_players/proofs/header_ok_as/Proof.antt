@@ -1,3 +1,4 @@
+-- `chart_players::header_ok_as` meets its contract. Assumes nothing.
 use mathlib.Core.List.{List}
 use Rattle.num_floats.specs.Fields.{u32At}
 use Rattle.chart_players.specs.Under.{header-none, header-under, flags-none, for-settings}
@@ -10,33 +11,22 @@ use mathlib.Core.Path.{sym, ap, _∙_}
 use borrow.Author.Needs.{needs}
 use Rattle.chart_players.proofs.header_ok_as.Statement.{statement}
 use Rattle.chart_players.proofs.header_ok_as.Tie as tie
-use Rattle.chart_players.proofs.header_ok_as.Reads as reads
-use Rattle.chart_players.proofs.header_ok_as.Lts as lts
-use Rattle.chart_opening.proofs.flags_ok.Reads as flags-ok-reads
-use Rattle.chart_opening.proofs.frame_ok.Reads as frame-ok-reads
-use Rattle.num_floats.proofs.u32_at.Reads as u32-at-reads
 
--- src/lib.rt:25:9
 frame-ok-requires : tie.Need-frame-ok-requires
 frame-ok-requires c κs = search needs
 
--- src/lib.rt:26:9
 returns : tie.Need-returns
 returns c = let a = c .before .before .before .before .args in sym (header-none (a .settings .now) (a .chart .now) (sym (c .before .frame-ok .ensures) ∙ not-true _ (c .if1 .taken)))
 
--- src/lib.rt:29:9
 returns-2 : tie.Need-returns-2
 returns-2 c = let a = c .before .before .before .before .before .args in let f = sym (c .before .before .frame-ok .ensures) ∙ not-false _ (c .before .if1 .left) in sym (header-under (a .settings .now) (a .chart .now) (framed _ f .long) ∙ simp (f, flags-none (a .settings .now) (ne-eqb _ _ (c .if2 .taken))))
 
--- src/lib.rt:31:29
 u32-at-requires : tie.Need-u32-at-requires
 u32-at-requires c κs = search needs
 
--- src/lib.rt:31:5
 flags-ok-requires : tie.Need-flags-ok-requires
 flags-ok-requires c κs = search needs
 
--- src/lib.rt:22:1
 returns-3 : tie.Need-returns-3
 returns-3 c = let a = c .before .before .before .before .before .before .before .args in let f = sym (c .before .before .before .before .frame-ok .ensures) ∙ not-false _ (c .before .before .before .if1 .left) in c .flags-ok .ensures ∙ sym (header-under (a .settings .now) (a .chart .now) (framed _ f .long) ∙ simp (f, for-settings (a .settings .now) (c .before .before .if2 .left), c .before .u32-at .ensures))
 

@@ -1,3 +1,4 @@
+-- `chart_players::insert_both` meets its contract. Assumes nothing.
 use Rattle.chart_opening.specs.Conditions.{ifAccepted}
 use Rattle.chart_inserting.specs.Accepted.{inserted}
 use Rattle.chart_players.specs.Verdicts.{both-accepted}
@@ -5,41 +6,29 @@ use mathlib.Core.Path.{sym, ap, _∙_}
 use borrow.Author.Needs.{needs}
 use Rattle.chart_players.proofs.insert_both.Statement.{statement}
 use Rattle.chart_players.proofs.insert_both.Tie as tie
-use Rattle.chart_players.proofs.insert_both.Reads as reads
-use Rattle.chart_players.proofs.insert_both.Lts as lts
-use Rattle.chart_inserting.proofs.put_in.Reads as put-in-reads
-use Rattle.chart_players.proofs.check_insert_both.Reads as check-insert-both-reads
 
--- src/lib.rt:203:11
 check-insert-both-requires : tie.Need-check-insert-both-requires
 check-insert-both-requires c κs = search needs
 
--- src/lib.rt:204:26
 enum-known-r : tie.Need-enum-known-r
 enum-known-r c = search needs
 
--- src/lib.rt:206:37
 enum-told : tie.Need-enum-told
 enum-told c = search needs
 
--- src/lib.rt:206:13
 put-in-requires : tie.Need-put-in-requires
 put-in-requires c κs = let a = c .before .before .before .before .before .before .before .before .args in inserted (a .chart .now) (a .place) (a .object .now) (a .entries) (both-accepted _ _ (sym (c .before .before .before .check-insert-both .ensures) ∙ c .before .enum-told .given .1) .0)
 
--- src/lib.rt:190:1
 same-length : tie.Need-same-length
 same-length c = search needs
 
--- src/lib.rt:190:1
 returns : tie.Need-returns
 unfolding ifAccepted
 returns c = (sym (c .before .r .given .1) ∙ c .before .before .before .check-insert-both .ensures, search needs)
 
--- src/lib.rt:190:1
 same-length-2 : tie.Need-same-length-2
 same-length-2 c = search needs
 
--- src/lib.rt:190:1
 returns-2 : tie.Need-returns-2
 unfolding ifAccepted
 returns-2 c = (sym (c .before .before .before .before .enum-told .given .1) ∙ c .before .before .before .before .before .before .check-insert-both .ensures, c .before .before .put-in .ensures)

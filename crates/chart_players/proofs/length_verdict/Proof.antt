@@ -1,14 +1,11 @@
+-- `chart_players::length_verdict` meets its contract. Assumes nothing.
 use borrow.Author.Needs.{needs}
 use Rattle.chart_players.proofs.length_verdict.Statement.{statement}
 use Rattle.chart_players.proofs.length_verdict.Tie as tie
-use Rattle.chart_players.proofs.length_verdict.Reads as reads
-use Rattle.chart_players.proofs.length_verdict.Lts as lts
 
--- src/lib.rt:77:9
 returns : tie.Need-returns
 returns c = simp (c .if1 .taken)
 
--- src/lib.rt:73:1
 returns-2 : tie.Need-returns-2
 returns-2 c = search needs
 

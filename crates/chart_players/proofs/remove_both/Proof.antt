@@ -1,3 +1,4 @@
+-- `chart_players::remove_both` meets its contract. Assumes nothing.
 use Rattle.chart_opening.specs.Conditions.{ifAccepted}
 use Rattle.chart_inserting.specs.Accepted.{removed}
 use Rattle.chart_players.specs.Verdicts.{both-accepted}
@@ -5,41 +6,29 @@ use mathlib.Core.Path.{sym, ap, _∙_}
 use borrow.Author.Needs.{needs}
 use Rattle.chart_players.proofs.remove_both.Statement.{statement}
 use Rattle.chart_players.proofs.remove_both.Tie as tie
-use Rattle.chart_players.proofs.remove_both.Reads as reads
-use Rattle.chart_players.proofs.remove_both.Lts as lts
-use Rattle.chart_inserting.proofs.take_out.Reads as take-out-reads
-use Rattle.chart_players.proofs.check_remove_both.Reads as check-remove-both-reads
 
--- src/lib.rt:259:11
 check-remove-both-requires : tie.Need-check-remove-both-requires
 check-remove-both-requires c κs = search needs
 
--- src/lib.rt:260:26
 enum-known-r : tie.Need-enum-known-r
 enum-known-r c = search needs
 
--- src/lib.rt:262:39
 enum-told : tie.Need-enum-told
 enum-told c = search needs
 
--- src/lib.rt:262:13
 take-out-requires : tie.Need-take-out-requires
 take-out-requires c κs = let a = c .before .before .before .before .before .before .before .args in removed (a .chart .now) (a .place) (a .entries) (both-accepted _ _ (sym (c .before .before .before .check-remove-both .ensures) ∙ c .before .enum-told .given .1) .0)
 
--- src/lib.rt:247:1
 same-length : tie.Need-same-length
 same-length c = search needs
 
--- src/lib.rt:247:1
 returns : tie.Need-returns
 unfolding ifAccepted
 returns c = (sym (c .before .r .given .1) ∙ c .before .before .before .check-remove-both .ensures, search needs)
 
--- src/lib.rt:247:1
 same-length-2 : tie.Need-same-length-2
 same-length-2 c = search needs
 
--- src/lib.rt:247:1
 returns-2 : tie.Need-returns-2
 unfolding ifAccepted
 returns-2 c = (sym (c .before .before .before .before .enum-told .given .1) ∙ c .before .before .before .before .before .before .check-remove-both .ensures, c .before .before .take-out .ensures)

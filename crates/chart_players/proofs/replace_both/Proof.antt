@@ -1,3 +1,4 @@
+-- `chart_players::replace_both` meets its contract. Assumes nothing.
 use Rattle.chart_opening.specs.Conditions.{ifAccepted}
 use Rattle.chart_replacing.specs.Accepted.{taken}
 use Rattle.chart_players.specs.Verdicts.{both-accepted}
@@ -5,41 +6,29 @@ use mathlib.Core.Path.{sym, ap, _∙_}
 use borrow.Author.Needs.{needs}
 use Rattle.chart_players.proofs.replace_both.Statement.{statement}
 use Rattle.chart_players.proofs.replace_both.Tie as tie
-use Rattle.chart_players.proofs.replace_both.Reads as reads
-use Rattle.chart_players.proofs.replace_both.Lts as lts
-use Rattle.chart_players.proofs.check_replace_both.Reads as check-replace-both-reads
-use Rattle.chart_replacing.proofs.put_object.Reads as put-object-reads
 
--- src/lib.rt:138:11
 check-replace-both-requires : tie.Need-check-replace-both-requires
 check-replace-both-requires c κs = search needs
 
--- src/lib.rt:139:26
 enum-known-r : tie.Need-enum-known-r
 enum-known-r c = search needs
 
--- src/lib.rt:141:41
 enum-told : tie.Need-enum-told
 enum-told c = search needs
 
--- src/lib.rt:141:13
 put-object-requires : tie.Need-put-object-requires
 put-object-requires c κs = let a = c .before .before .before .before .before .before .before .before .args in taken (a .chart .now) (a .place) (a .object .now) (a .entries) (both-accepted _ _ (sym (c .before .before .before .check-replace-both .ensures) ∙ c .before .enum-told .given .1) .0)
 
--- src/lib.rt:125:1
 same-length : tie.Need-same-length
 same-length c = search needs
 
--- src/lib.rt:125:1
 returns : tie.Need-returns
 unfolding ifAccepted
 returns c = (sym (c .before .r .given .1) ∙ c .before .before .before .check-replace-both .ensures, search needs)
 
--- src/lib.rt:125:1
 same-length-2 : tie.Need-same-length-2
 same-length-2 c = search needs
 
--- src/lib.rt:125:1
 returns-2 : tie.Need-returns-2
 unfolding ifAccepted
 returns-2 c = (sym (c .before .before .before .before .enum-told .given .1) ∙ c .before .before .before .before .before .before .check-replace-both .ensures, c .before .before .put-object .ensures)

@@ -18,28 +18,22 @@ Inv-loop values₀ t chart lay set lo hi j₀ values j =
 abbrev μ-loop : tie.MeasureT-loop
 μ-loop values₀ t chart lay set lo hi j₀ values j = hi - j
 
--- src/lib.rt:62:5
 loop-holds : tie.Need-loop-holds Inv-loop μ-loop
 loop-holds c =
     let a = c .before .before .before .args in (fill-none 5 (valuesIn (a .set) (a .chart .now) (a .lay) (a .t .now)) (a .lo) (a .values .now), omega arith, omega arith, refl)
 
--- src/lib.rt:63:13
 values-at-requires : tie.Need-values-at-requires Inv-loop μ-loop
 values-at-requires c κs = search needs
 
--- src/lib.rt:64:9
 put-values-requires : tie.Need-put-values-requires Inv-loop μ-loop
 put-values-requires c κs = search needs
 
--- src/lib.rt:65:9
 add-j : tie.Need-add-j Inv-loop μ-loop
 add-j c = search needs
 
--- src/lib.rt:62:5
 loop-less : tie.Need-loop-less Inv-loop μ-loop
 loop-less c = omega arith
 
--- src/lib.rt:62:5
 loop-again : tie.Need-loop-again Inv-loop μ-loop
 loop-again c =
     let a = c .before .before .before .before .before .before .before .before .before .before .args in
@@ -53,11 +47,9 @@ loop-again c =
       ap length (c .before .before .put-values .ensures) ∙ (length-put (5 * j) (rowOf (c .before .before .before .before .values-at .result)) vs (omega (arith, row-width (c .before .before .before .before .values-at .result))) ∙ c .before .before .before .before .before .before .loop .inv .3),
     )
 
--- src/lib.rt:49:1
 same-length : tie.Need-same-length Inv-loop μ-loop
 same-length c = c .before .loop .inv .3
 
--- src/lib.rt:49:1
 returns : tie.Need-returns Inv-loop μ-loop
 returns c = let e : c .before .before .before .before .before .args .hi - c .before .before .before .before .before .args .lo ≡ c .before .loop .j - c .before .before .before .before .before .args .lo = omega arith in rw e (c .before .loop .inv .0)
 

@@ -10,71 +10,54 @@ use borrow.Author.Needs.{needs}
 use Rattle.eval_values.proofs.put_values.Statement.{statement}
 use Rattle.eval_values.proofs.put_values.Tie as tie
 
--- src/lib.rt:40:14
 mul-at : tie.Need-mul-at
 mul-at c = search needs
 
--- src/lib.rt:41:5
 mul-values : tie.Need-mul-values
 mul-values c = search needs
 
--- src/lib.rt:41:5
 slice-write-values : tie.Need-slice-write-values
 slice-write-values c = search needs
 
--- src/lib.rt:42:12
 add-values : tie.Need-add-values
 add-values c = search needs
 
--- src/lib.rt:42:5
 mul-values-2 : tie.Need-mul-values-2
 mul-values-2 c = search needs
 
--- src/lib.rt:42:5
 slice-write-values-2 : tie.Need-slice-write-values-2
 slice-write-values-2 c = simp length-set (omega arith)
 
--- src/lib.rt:43:12
 add-values-2 : tie.Need-add-values-2
 add-values-2 c = search needs
 
--- src/lib.rt:43:5
 mul-values-3 : tie.Need-mul-values-3
 mul-values-3 c = search needs
 
--- src/lib.rt:43:5
 slice-write-values-3 : tie.Need-slice-write-values-3
 slice-write-values-3 c = simp length-set (omega arith)
 
--- src/lib.rt:44:12
 add-values-3 : tie.Need-add-values-3
 add-values-3 c = search needs
 
--- src/lib.rt:44:5
 mul-values-4 : tie.Need-mul-values-4
 mul-values-4 c = search needs
 
--- src/lib.rt:44:5
 slice-write-values-4 : tie.Need-slice-write-values-4
 slice-write-values-4 c = simp length-set (omega arith)
 
--- src/lib.rt:45:12
 add-values-4 : tie.Need-add-values-4
 add-values-4 c = search needs
 
--- src/lib.rt:45:5
 mul-values-5 : tie.Need-mul-values-5
 mul-values-5 c = search needs
 
--- src/lib.rt:45:5
 slice-write-values-5 : tie.Need-slice-write-values-5
 slice-write-values-5 c = simp length-set (omega arith)
 
--- src/lib.rt:36:1
 same-length : tie.Need-same-length
 same-length c = search needs
 
--- src/lib.rt:36:1
 returns : tie.Need-returns
 unfolding rowOf
 returns c = simp towards-suc (sets-put (rowOf (c .args .v)) (now (c .args .values)) (5 * c .args .j) (c .pre .1))

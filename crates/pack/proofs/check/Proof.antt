@@ -5,32 +5,22 @@ use Rattle.pack.proofs.Checks.{too-many}
 use Rattle.pack.proofs.Lists.{checked}
 use Rattle.pack.proofs.check.Statement.{statement}
 use Rattle.pack.proofs.check.Tie as tie
-use Rattle.pack.proofs.check_all.Reads as check-all-reads
-use Rattle.pack.proofs.entries_in.Reads as entries-in-reads
-use Rattle.pack.proofs.scratch_short.Reads as scratch-short-reads
-use Rattle.skills_stars.proofs.Asked.is_finite.Reads as is-finite-reads
 
--- src/lib.rt:316:9
 returns : tie.Need-returns
 returns c = let a = c .before .before .before .args in (too-many (a .asked) (a .records) (a .values) (record { aim = a .aim; aimNoSliders = a .aim-no-sliders; speed = a .speed; flashlight = a .flashlight }) (a .pack .now) (a .list .now) (c .if1 .taken), (refl, refl))
 
--- src/lib.rt:318:9
 entries-in-requires : tie.Need-entries-in-requires
 entries-in-requires c κs = search needs
 
--- src/lib.rt:319:9
 scratch-short-requires : tie.Need-scratch-short-requires
 scratch-short-requires c κs = search needs
 
--- src/lib.rt:320:43
 is-finite-requires : tie.Need-is-finite-requires
 is-finite-requires c κs = search needs
 
--- src/lib.rt:320:5
 check-all-requires : tie.Need-check-all-requires
 check-all-requires c κs = search needs
 
--- src/lib.rt:301:1
 returns-2 : tie.Need-returns-2
 returns-2 c =
     let a = c .before .before .before .before .before .before .before .args in

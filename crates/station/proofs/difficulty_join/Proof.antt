@@ -8,59 +8,43 @@ use Rattle.pack.specs.Pack.{tables, buffers}
 use Rattle.station.specs.Codes.{verdictCode, numbersWidth, rankVerdictInto, rankInto}
 use Rattle.station.proofs.difficulty_join.Statement.{statement}
 use Rattle.station.proofs.difficulty_join.Tie as tie
-use Rattle.station.proofs.asked_of.Reads as asked-of-reads
-use Rattle.station.proofs.code.Reads as code-reads
-use Rattle.station.proofs.join_into.Reads as join-into-reads
 
--- src/lib.rt:788:9
 asked-of-requires : tie.Need-asked-of-requires
 asked-of-requires c κs = search needs
 
--- src/lib.rt:789:11
 join-into-requires : tie.Need-join-into-requires
 join-into-requires c κs = search needs
 
--- src/lib.rt:802:26
 enum-known-r : tie.Need-enum-known-r
 enum-known-r c = search needs
 
--- src/lib.rt:802:32
 code-requires : tie.Need-code-requires
 code-requires c κs = search needs
 
--- src/lib.rt:803:30
 enum-told : tie.Need-enum-told
 enum-told c = search needs
 
--- src/lib.rt:762:1
 same-length : tie.Need-same-length
 same-length c = search needs
 
--- src/lib.rt:762:1
 same-length-2 : tie.Need-same-length-2
 same-length-2 c = search needs
 
--- src/lib.rt:762:1
 same-length-3 : tie.Need-same-length-3
 same-length-3 c = search needs
 
--- src/lib.rt:762:1
 same-length-4 : tie.Need-same-length-4
 same-length-4 c = search needs
 
--- src/lib.rt:762:1
 same-length-5 : tie.Need-same-length-5
 same-length-5 c = search needs
 
--- src/lib.rt:762:1
 same-length-6 : tie.Need-same-length-6
 same-length-6 c = search needs
 
--- src/lib.rt:762:1
 same-length-7 : tie.Need-same-length-7
 same-length-7 c = search needs
 
--- src/lib.rt:762:1
 returns : tie.Need-returns
 returns c =
     let a = c .before .before .before .before .before .before .before .before .before .before .before .before .before .before .before .before .before .before .before .before .before .before .before .before .before .before .before .before .before .before .before .before .before .before .before .before .args in
@@ -72,35 +56,27 @@ returns c =
       (e .1 ∙ (λ i. rankInto (k i) few (a .pack .now) x), (refl, refl)),
     )
 
--- src/lib.rt:762:1
 same-length-8 : tie.Need-same-length-8
 same-length-8 c = search needs
 
--- src/lib.rt:762:1
 same-length-9 : tie.Need-same-length-9
 same-length-9 c = search needs
 
--- src/lib.rt:762:1
 same-length-10 : tie.Need-same-length-10
 same-length-10 c = search needs
 
--- src/lib.rt:762:1
 same-length-11 : tie.Need-same-length-11
 same-length-11 c = search needs
 
--- src/lib.rt:762:1
 same-length-12 : tie.Need-same-length-12
 same-length-12 c = search needs
 
--- src/lib.rt:762:1
 same-length-13 : tie.Need-same-length-13
 same-length-13 c = search needs
 
--- src/lib.rt:762:1
 same-length-14 : tie.Need-same-length-14
 same-length-14 c = search needs
 
--- src/lib.rt:762:1
 returns-2 : tie.Need-returns-2
 returns-2 c =
     let a = c .before .before .before .before .before .before .before .before .before .before .before .before .before .before .before .before .before .before .before .before .before .before .before .before .before .before .before .before .before .before .before .before .before .before .args in

@@ -12,67 +12,51 @@ Inv-loop s n out₀ end₀ i₀ out end i = length out ≡ length out₀
 abbrev μ-loop : tie.MeasureT-loop
 μ-loop s n out₀ end₀ i₀ out end i = n - i
 
--- src/main.rt:88:5
 loop-holds : tie.Need-loop-holds Inv-loop μ-loop
 loop-holds c = search needs
 
--- src/main.rt:89:18
 mul-at : tie.Need-mul-at Inv-loop μ-loop
 mul-at c = search needs
 
--- src/main.rt:90:35
 add-u64-at : tie.Need-add-u64-at Inv-loop μ-loop
 add-u64-at c = search needs
 
--- src/main.rt:90:13
 u64-at-requires : tie.Need-u64-at-requires Inv-loop μ-loop
 u64-at-requires c κs = search needs
 
--- src/main.rt:91:35
 add-u64-at-2 : tie.Need-add-u64-at-2 Inv-loop μ-loop
 add-u64-at-2 c = search needs
 
--- src/main.rt:91:13
 u64-at-requires-2 : tie.Need-u64-at-requires-2 Inv-loop μ-loop
 u64-at-requires-2 c κs = search needs
 
--- src/main.rt:92:35
 add-u64-at-3 : tie.Need-add-u64-at-3 Inv-loop μ-loop
 add-u64-at-3 c = search needs
 
--- src/main.rt:92:13
 u64-at-requires-3 : tie.Need-u64-at-requires-3 Inv-loop μ-loop
 u64-at-requires-3 c κs = search needs
 
--- src/main.rt:93:37
 shared-slice-read-answer : tie.Need-shared-slice-read-answer Inv-loop μ-loop
 shared-slice-read-answer c = search needs
 
--- src/main.rt:93:13
 answer-requires : tie.Need-answer-requires Inv-loop μ-loop
 answer-requires c κs = search needs
 
--- src/main.rt:94:9
 put-requires : tie.Need-put-requires Inv-loop μ-loop
 put-requires c κs = search needs
 
--- src/main.rt:95:9
 add-i : tie.Need-add-i Inv-loop μ-loop
 add-i c = search needs
 
--- src/main.rt:88:5
 loop-less : tie.Need-loop-less Inv-loop μ-loop
 loop-less c = search needs
 
--- src/main.rt:88:5
 loop-again : tie.Need-loop-again Inv-loop μ-loop
 loop-again c = search needs
 
--- src/main.rt:83:1
 same-length : tie.Need-same-length Inv-loop μ-loop
 same-length c = search needs
 
--- src/main.rt:83:1
 returns : tie.Need-returns Inv-loop μ-loop
 returns c = search needs
 

@@ -4,8 +4,6 @@ use Prim.Native.Nat.{_-_}
 use borrow.Author.Needs.{needs}
 use Rattle.test_packs.proofs.hash_list.Statement.{statement}
 use Rattle.test_packs.proofs.hash_list.Tie as tie
-use Rattle.test_packs.proofs.hashed.Reads as hashed-reads
-use Rattle.test_packs.proofs.wide.Reads as wide-reads
 
 abbrev Inv-loop : tie.InvT-loop
 Inv-loop list h₀ i₀ h i = Unit {0}
@@ -13,39 +11,30 @@ Inv-loop list h₀ i₀ h i = Unit {0}
 abbrev μ-loop : tie.MeasureT-loop
 μ-loop list h₀ i₀ h i = length list - i
 
--- src/main.rt:40:5
 loop-holds : tie.Need-loop-holds Inv-loop μ-loop
 loop-holds c = search needs
 
--- src/main.rt:41:28
 mul-wide : tie.Need-mul-wide Inv-loop μ-loop
 mul-wide c = search needs
 
--- src/main.rt:41:28
 shared-slice-read-wide : tie.Need-shared-slice-read-wide Inv-loop μ-loop
 shared-slice-read-wide c = search needs
 
--- src/main.rt:41:23
 wide-requires : tie.Need-wide-requires Inv-loop μ-loop
 wide-requires c κs = search needs
 
--- src/main.rt:41:9
 hashed-requires : tie.Need-hashed-requires Inv-loop μ-loop
 hashed-requires c κs = search needs
 
--- src/main.rt:42:9
 add-i : tie.Need-add-i Inv-loop μ-loop
 add-i c = search needs
 
--- src/main.rt:40:5
 loop-less : tie.Need-loop-less Inv-loop μ-loop
 loop-less c = search needs
 
--- src/main.rt:40:5
 loop-again : tie.Need-loop-again Inv-loop μ-loop
 loop-again c = search needs
 
--- src/main.rt:37:1
 returns : tie.Need-returns Inv-loop μ-loop
 returns c = search needs
 

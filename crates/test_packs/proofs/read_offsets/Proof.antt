@@ -5,8 +5,6 @@ use Prim.Native.Nat.{_-_, _≤_}
 use borrow.Author.Needs.{needs}
 use Rattle.test_packs.proofs.read_offsets.Statement.{statement}
 use Rattle.test_packs.proofs.read_offsets.Tie as tie
-use Rattle.print_text.proofs.next_length.Reads as next-length-reads
-use Rattle.print_text.proofs.next_long.Reads as next-long-reads
 
 abbrev Inv-loop : tie.InvT-loop
 Inv-loop list₀ n i₀ list i = (length list ≡ length list₀) × (n ≤ length list₀)
@@ -14,43 +12,33 @@ Inv-loop list₀ n i₀ list i = (length list ≡ length list₀) × (n ≤ leng
 abbrev μ-loop : tie.MeasureT-loop
 μ-loop list₀ n i₀ list i = n - i
 
--- src/main.rt:83:9
 next-length-requires : tie.Need-next-length-requires Inv-loop μ-loop
 next-length-requires c κs = search needs
 
--- src/main.rt:85:5
 loop-holds : tie.Need-loop-holds Inv-loop μ-loop
 loop-holds c = search needs
 
--- src/main.rt:86:19
 next-long-requires : tie.Need-next-long-requires Inv-loop μ-loop
 next-long-requires c κs = search needs
 
--- src/main.rt:86:9
 mul-list : tie.Need-mul-list Inv-loop μ-loop
 mul-list c = search needs
 
--- src/main.rt:86:9
 slice-write-list : tie.Need-slice-write-list Inv-loop μ-loop
 slice-write-list c = search needs
 
--- src/main.rt:87:9
 add-i : tie.Need-add-i Inv-loop μ-loop
 add-i c = search needs
 
--- src/main.rt:85:5
 loop-less : tie.Need-loop-less Inv-loop μ-loop
 loop-less c = search needs
 
--- src/main.rt:85:5
 loop-again : tie.Need-loop-again Inv-loop μ-loop
 loop-again c = search needs
 
--- src/main.rt:80:1
 same-length : tie.Need-same-length Inv-loop μ-loop
 same-length c = search needs
 
--- src/main.rt:80:1
 returns : tie.Need-returns Inv-loop μ-loop
 returns c = search needs
 

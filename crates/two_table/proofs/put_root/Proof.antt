@@ -1,3 +1,4 @@
+-- `two_table::put_root` meets its contract. Assumes nothing.
 use borrow.Author.Needs.{needs}
 -- `two_table::put_root` meets its contract: the parts one after the other. Assumes nothing.
 use Rattle.print_text.specs.Buffer.{then}

@@ -1,3 +1,4 @@
+-- `num_util::difficulty::bpm_to_milliseconds` meets its contract. Assumes nothing.
 use lib.Ieee.{div}
 use Rattle.num_util.specs.Difficulty.{bpmToMilliseconds}
 use borrow.Author.Needs.{needs}

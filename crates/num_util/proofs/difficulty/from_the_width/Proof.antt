@@ -1,3 +1,4 @@
+-- `num_util::difficulty::from_the_width` meets its contract. Assumes nothing.
 use Rattle.num_util.specs.Difficulty.{fromTheWidth}
 use Rattle.num_util.proofs.difficulty.from_the_width.Statement.{statement}
 use Rattle.num_util.proofs.difficulty.from_the_width.Tie as tie

@@ -1,3 +1,4 @@
+-- `num_util::difficulty::logistic` meets its contract. Assumes nothing.
 use Rattle.num_util.specs.Difficulty.{logistic}
 use borrow.Author.Needs.{needs}
 use Rattle.num_util.proofs.difficulty.logistic.Statement.{statement}

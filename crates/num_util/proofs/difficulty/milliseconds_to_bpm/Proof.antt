@@ -1,3 +1,4 @@
+-- `num_util::difficulty::milliseconds_to_bpm` meets its contract. Assumes nothing.
 use lib.Ieee.{div}
 use Rattle.num_util.specs.Difficulty.{millisecondsToBpm}
 use borrow.Author.Needs.{needs}

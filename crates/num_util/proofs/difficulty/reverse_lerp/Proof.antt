@@ -1,3 +1,4 @@
+-- `num_util::difficulty::reverse_lerp` meets its contract. Assumes nothing.
 use Rattle.num_util.specs.Difficulty.{reverseLerp}
 use borrow.Author.Needs.{needs}
 use Rattle.num_util.proofs.difficulty.reverse_lerp.Statement.{statement}

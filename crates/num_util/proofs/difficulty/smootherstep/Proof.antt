@@ -1,3 +1,4 @@
+-- `num_util::difficulty::smootherstep` meets its contract. Assumes nothing.
 use Rattle.num_util.specs.Difficulty.{smootherstep}
 use borrow.Author.Needs.{needs}
 use Rattle.num_util.proofs.difficulty.smootherstep.Statement.{statement}

@@ -1,3 +1,4 @@
+-- `num_util::difficulty::smoothstep` meets its contract. Assumes nothing.
 use Rattle.num_util.specs.Difficulty.{smoothstep}
 use borrow.Author.Needs.{needs}
 use Rattle.num_util.proofs.difficulty.smoothstep.Statement.{statement}

@@ -1,3 +1,4 @@
+-- `num_util::difficulty::smoothstep_bell_curve` meets its contract. Assumes nothing.
 use Rattle.num_util.specs.Difficulty.{smoothstepBellCurve}
 use borrow.Author.Needs.{needs}
 use Rattle.num_util.proofs.difficulty.smoothstep_bell_curve.Statement.{statement}

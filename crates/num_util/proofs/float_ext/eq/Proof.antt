@@ -1,3 +1,4 @@
+-- `num_util::float_ext::eq` meets its contract. Assumes nothing.
 use Rattle.num_util.specs.FloatExt.{eq}
 use borrow.Author.Needs.{needs}
 use Rattle.num_util.proofs.float_ext.eq.Statement.{statement}

@@ -1,3 +1,4 @@
+-- `num_util::float_ext::lerp` meets its contract. Assumes nothing.
 use lib.Ieee.{add}
 use Rattle.num_util.specs.FloatExt.{lerp}
 use borrow.Author.Needs.{needs}

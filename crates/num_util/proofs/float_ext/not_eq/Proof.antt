@@ -1,3 +1,4 @@
+-- `num_util::float_ext::not_eq` meets its contract. Assumes nothing.
 use Rattle.num_util.specs.FloatExt.{notEq}
 use borrow.Author.Needs.{needs}
 use Rattle.num_util.proofs.float_ext.not_eq.Statement.{statement}
