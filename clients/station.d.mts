@@ -115,3 +115,6 @@ export declare class Second {
     get settings(): Uint8Array;
     set settings(settings: Uint8Array);
 }
+
+/** The offsets of charts in a pack put in order, the higher chart first. The first `first` offsets (none, where it is left out) and the others may be listings already. */
+export declare function rank(module: WebAssembly.Module, pack: Uint8Array, offsets: number[], mods: number, numbers: RatingNumbers, first?: number): Promise<number[] | Refusal>;

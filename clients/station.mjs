@@ -101,6 +101,13 @@ class Memory {
         return code === 0n ? null : new Refusal(code);
     }
 
+    // The numbers that come with ratings; the word that says which of the last two are given.
+    asked({ approachRate, overallDifficulty, baseMultiplier, attractionStrength, startScale }) {
+        const numbers = [approachRate, overallDifficulty, baseMultiplier, attractionStrength ?? 0, startScale ?? 0];
+        new Float64Array(this.call.memory.buffer, this.numbers.at, numbers.length).set(numbers);
+        return (attractionStrength === undefined ? 0 : 1) | (startScale === undefined ? 0 : 2);
+    }
+
     // The first numbers of the output, or the refusal.
     numbersOf(count, name, ...given) {
         return this.carry(name, ...given, { at: this.out.at, length: count }) ?? this.read(this.out, count);
@@ -184,10 +191,8 @@ class Player {
     }
 
     /** Aim, speed and flashlight ratings and the stars; attraction strength and start scale are given where they are there. */
-    ratings(mods, { approachRate, overallDifficulty, baseMultiplier, attractionStrength, startScale }) {
-        const memory = this.#memory, given = (attractionStrength === undefined ? 0 : 1) | (startScale === undefined ? 0 : 2);
-        const numbers = [approachRate, overallDifficulty, baseMultiplier, attractionStrength ?? 0, startScale ?? 0];
-        new Float64Array(memory.call.memory.buffer, memory.numbers.at, numbers.length).set(numbers);
+    ratings(mods, numbers) {
+        const memory = this.#memory, given = memory.asked(numbers);
         return this.#numbersOf(RATINGS, 'ratings', this.#values, mods, given, memory.numbers, ...memory.scratch);
     }
 }
@@ -299,4 +304,15 @@ export class Second extends Player {
         if (settings.length !== lent[1].length) lent[1] = memory.claim(settings.length, 1);
         memory.bytes(lent[1]).set(settings);
     }
+}
+
+/** The offsets of charts in a pack put in order, the higher chart first, or a Refusal; mods and numbers are those of ratings. The first `first` offsets and the others may be listings already. */
+export async function rank(module, pack, offsets, mods, numbers, first = 0) {
+    const memory = new Memory(await WebAssembly.instantiate(module, {}), pack, 0);
+    const entries = Math.max(0, ...offsets.map((offset) => Math.min(count(pack.subarray(offset)), MOST)));
+    const list = memory.claim(offsets.length, NUMBER), tables = [RECORD, VALUES].map((width) => memory.claim(width * entries, NUMBER));
+    const listed = () => new BigUint64Array(memory.call.memory.buffer, list.at, list.length);
+    listed().set(offsets.map(BigInt));
+    const given = memory.asked(numbers);
+    return memory.carry('join', memory.chart, list, BigInt(first), mods, given, memory.numbers, ...tables, ...memory.scratch) ?? Array.from(listed(), Number);
 }

@@ -11,7 +11,7 @@ enum { MEMORY = 1 << 20, ROOM = 1 << 24 };
 static _Alignas(16) uint8_t memory[MEMORY];
 static uint8_t answers[ROOM];
 static size_t answered;
-static const unsigned takes[] = {6, 9, 9, 7, 7, 7, 7, 7, 14, 15, 14, 14, 18, 15, 15, 13, 8, 9, 9, 9, 9, 16, 17, 16, 16, 20};
+static const unsigned takes[] = {6, 9, 9, 7, 7, 7, 7, 7, 14, 15, 14, 14, 18, 15, 15, 13, 8, 9, 9, 9, 9, 16, 17, 16, 16, 20, 20, 21};
 
 static void fail(const char *why) {
     fprintf(stderr, "replay: %s\n", why);
@@ -40,9 +40,10 @@ static uint8_t *at(uint64_t address, uint64_t length) {
     return memory + address;
 }
 
-/* Slice i of the arguments, of bytes and of numbers. */
+/* Slice i of the arguments, of bytes, of numbers and of offsets. */
 #define BYTES(i) at(a[i], a[(i) + 1]), a[(i) + 1]
 #define NUMBERS(i) (double *)at(a[i], 8 * a[(i) + 1]), a[(i) + 1]
+#define OFFSETS(i) (uint64_t *)at(a[i], 8 * a[(i) + 1]), a[(i) + 1]
 #define FOUR(i) NUMBERS(i), NUMBERS((i) + 2), NUMBERS((i) + 4), NUMBERS((i) + 6)
 
 static uint64_t call(uint32_t number, const uint64_t *a) {
@@ -72,12 +73,14 @@ static uint64_t call(uint32_t number, const uint64_t *a) {
     case 22: return difficulty_totals_to_as(BYTES(0), BYTES(2), NUMBERS(4), a[6], FOUR(7), NUMBERS(15));
     case 23: return difficulty_totals_while_playing_as(BYTES(0), BYTES(2), NUMBERS(4), NUMBERS(6), FOUR(8));
     case 24: return difficulty_counts_as(BYTES(0), BYTES(2), NUMBERS(4), FOUR(6), NUMBERS(14));
+    case 26: return difficulty_rank(BYTES(0), OFFSETS(2), (uint32_t)a[4], (uint32_t)a[5], NUMBERS(6), NUMBERS(8), NUMBERS(10), FOUR(12));
+    case 27: return difficulty_join(BYTES(0), OFFSETS(2), a[4], (uint32_t)a[5], (uint32_t)a[6], NUMBERS(7), NUMBERS(9), NUMBERS(11), FOUR(13));
     default: return difficulty_ratings_as(BYTES(0), BYTES(2), NUMBERS(4), (uint32_t)a[6], (uint32_t)a[7], NUMBERS(8), FOUR(10), NUMBERS(18));
     }
 }
 
 static void step(uint32_t what) {
-    uint64_t a[20], r;
+    uint64_t a[21], r;
     uint32_t first = what == END ? 0 : word(), second = what == END || what == CALL ? 0 : word();
     double x;
     switch (what) {

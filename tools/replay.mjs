@@ -16,6 +16,7 @@ const isEdit = ([name]) => ['replace', 'insert', 'remove'].includes(name);
 CALLS.push(
     ...CALLS.filter(isEdit).map(([name, takes]) => [`${name}_both`, `pn${takes}pnpn`]),
     ...CALLS.filter((call) => !isEdit(call)).map(([name, takes]) => [`${name}_as`, `pn${takes}`]),
+    ['rank', `pnpnwwpnpnpn${four}`], ['join', `pnpnnwwpnpnpn${four}`],
 );
 
 const { exports } = await WebAssembly.instantiate(await WebAssembly.compile(readFileSync(wasm)), {});

@@ -24,6 +24,8 @@ CALLS = {
 EDITS = ("replace", "insert", "remove")
 # For the second player settings come behind the chart, and an edit for both takes that player's tables too.
 CALLS |= {f"{name}_both": SLICE + CALLS[name] + SLICE * 2 for name in EDITS} | {f"{name}_as": SLICE + takes for name, takes in CALLS.items() if name not in EDITS}
+# A pack's charts are ranked by a list of their offsets, u64 each.
+CALLS |= {"rank": SLICE * 2 + "ww" + SLICE * 3 + FOUR, "join": SLICE * 2 + "nww" + SLICE * 3 + FOUR}
 NUMBER_OF = {name: i for i, name in enumerate(CALLS)}
 TAKES = list(CALLS.values())
 END, PUT, FILL, CALL, SHOW = range(5)
@@ -267,6 +269,42 @@ def of_scripts(data):
             step_of(case, s)
         s.take(8)
         case.show(CHART, MEMORY)
+        case.show(RECORDS, 128 * ENTRIES)
+        case.show(VALUES, 40 * ENTRIES)
+        yield case
+
+
+# ---------------------------------------------------------------- the stored packs
+
+def request_of(case, s, pack):
+    """One request of a pack, as crates/test_packs says how they are stored."""
+    kind = s.word()
+    if kind == 2:
+        place = min(s.word(), ENTRIES - 1)
+        case.show(RECORDS + 128 * place, 128)
+        case.show(VALUES + 40 * place, 40)
+        return
+    first, asked, n = s.word(), s.take(48), s.word()
+    case.put(NUMBERS, asked[8:])
+    case.put(LIST, s.take(8 * n))
+    records, values, *lengths = (min(s.word(), most) for most in (16 * ENTRIES, 5 * ENTRIES, *(SCRATCH,) * 4))
+    for at, length in scratch(lengths):
+        case.fill(at, length, UNUSED)
+    given = *struct.unpack_from("<2I", asked), (NUMBERS, 5), (RECORDS, records), (VALUES, values), *scratch(lengths)
+    case.call(*(["join", pack, (LIST, n), first] if kind == 1 else ["rank", pack, (LIST, n)]), *given)
+    case.show(LIST, 8 * n)
+
+
+def of_packs(data):
+    """A case for each pack, and at its end both tables."""
+    s, number = Stored(data), 0
+    while s.at < len(data):
+        case, b, number = Case(f"stored pack {number}"), s.sized(), number + 1
+        case.put(CHART, b)
+        case.fill(RECORDS, 16 * ENTRIES, UNUSED)
+        case.fill(VALUES, 5 * ENTRIES, UNUSED)
+        for _ in range(s.word()):
+            request_of(case, s, (CHART, len(b)))
         case.show(RECORDS, 128 * ENTRIES)
         case.show(VALUES, 40 * ENTRIES)
         yield case

@@ -151,43 +151,48 @@ fn place_all(
     last: f64,
     start: f64,
     delta: f64,
-    a: &mut [f64],
-    b: &mut [f64],
-    c: &mut [f64],
-    d: &mut [f64],
+    aim: &mut [f64],
+    aim_no_sliders: &mut [f64],
+    speed: &mut [f64],
+    flashlight: &mut [f64],
 ) -> Four
-    requires { ⌜ (FourFit (now a) (now b) (now c) (now d) from) × (1 ≤ j) × (5 * j + 5 ≤ length (now values)) ⌝ }
+    requires { ⌜ (FourFit (now aim) (now «aim_no_sliders») (now speed) (now flashlight) from) × (1 ≤ j) × (5 * j + 5 ≤ length (now values)) ⌝ }
     ensures { λ r. ⌜ FourStepped (row 5 (now (values .entry))) j last start delta
-        (now (a .entry)) (now (b .entry)) (now (c .entry)) (now (d .entry)) from
-        (now (a .exit)) (now (b .exit)) (now (c .exit)) (now (d .exit)) r ⌝ }
+        (now (aim .entry)) (now («aim_no_sliders» .entry)) (now (speed .entry)) (now (flashlight .entry)) from
+        (now (aim .exit)) (now («aim_no_sliders» .exit)) (now (speed .exit)) (now (flashlight .exit)) r ⌝ }
 {
-    let aim = place(values, j, Skill::Aim, from.aim, last, start, delta, a);
-    let aim_no_sliders = place(
-        values,
-        j,
-        Skill::AimNoSliders,
-        from.aim_no_sliders,
-        last,
-        start,
-        delta,
-        b,
-    );
-    let speed = place(values, j, Skill::Speed, from.speed, last, start, delta, c);
-    let flashlight = place(
-        values,
-        j,
-        Skill::Flashlight,
-        from.flashlight,
-        last,
-        start,
-        delta,
-        d,
-    );
     Four {
-        aim,
-        aim_no_sliders,
-        speed,
-        flashlight,
+        aim: place(values, j, Skill::Aim, from.aim, last, start, delta, aim),
+        aim_no_sliders: place(
+            values,
+            j,
+            Skill::AimNoSliders,
+            from.aim_no_sliders,
+            last,
+            start,
+            delta,
+            aim_no_sliders,
+        ),
+        speed: place(
+            values,
+            j,
+            Skill::Speed,
+            from.speed,
+            last,
+            start,
+            delta,
+            speed,
+        ),
+        flashlight: place(
+            values,
+            j,
+            Skill::Flashlight,
+            from.flashlight,
+            last,
+            start,
+            delta,
+            flashlight,
+        ),
     }
 }
 
@@ -201,19 +206,21 @@ fn total_of(skill: Skill, s: Played, peaks: &[f64]) -> f64
 }
 
 // The four totals after the places so far.
-fn totals_of(s: Four, a: &[f64], b: &[f64], c: &[f64], d: &[f64]) -> Skills
-    requires { ⌜ FourFit (now a) (now b) (now c) (now d) s ⌝ }
-    ensures { λ r. ⌜ r ≡ fourTotals s (now (a .entry)) (now (b .entry)) (now (c .entry)) (now (d .entry)) ⌝ }
+fn totals_of(
+    s: Four,
+    aim: &[f64],
+    aim_no_sliders: &[f64],
+    speed: &[f64],
+    flashlight: &[f64],
+) -> Skills
+    requires { ⌜ FourFit (now aim) (now «aim_no_sliders») (now speed) (now flashlight) s ⌝ }
+    ensures { λ r. ⌜ r ≡ fourTotals s (now (aim .entry)) (now («aim_no_sliders» .entry)) (now (speed .entry)) (now (flashlight .entry)) ⌝ }
 {
-    let aim = total_of(Skill::Aim, s.aim, a);
-    let aim_no_sliders = total_of(Skill::AimNoSliders, s.aim_no_sliders, b);
-    let speed = total_of(Skill::Speed, s.speed, c);
-    let flashlight = total_of(Skill::Flashlight, s.flashlight, d);
     Skills {
-        aim,
-        aim_no_sliders,
-        speed,
-        flashlight,
+        aim: total_of(Skill::Aim, s.aim, aim),
+        aim_no_sliders: total_of(Skill::AimNoSliders, s.aim_no_sliders, aim_no_sliders),
+        speed: total_of(Skill::Speed, s.speed, speed),
+        flashlight: total_of(Skill::Flashlight, s.flashlight, flashlight),
     }
 }
 
@@ -236,13 +243,13 @@ fn play(
     clock: f64,
     values: &[f64],
     list: &mut [f64],
-    a: &mut [f64],
-    b: &mut [f64],
-    c: &mut [f64],
-    d: &mut [f64],
+    aim: &mut [f64],
+    aim_no_sliders: &mut [f64],
+    speed: &mut [f64],
+    flashlight: &mut [f64],
 )
     requires { ⌜ (Readable (now chart) lay (now values)) × (2 ≤ lay .n) × (4 * (lay .n + 1) ≤ length (now list))
-        × (Roomy (now a)) × (Roomy (now b)) × (Roomy (now c)) × (Roomy (now d)) ⌝ }
+        × (Roomy (now aim)) × (Roomy (now «aim_no_sliders»)) × (Roomy (now speed)) × (Roomy (now flashlight)) ⌝ }
     ensures { λ _. ⌜ now (list .exit) ≡ fill 4 (rowAfter (now (chart .entry)) lay clock (now (values .entry))) 2 (lay .n - 1) (now (list .entry)) ⌝ }
 {
     let n = lay.n;
@@ -260,8 +267,20 @@ fn play(
         let raw = skills::raw_start(chart, lay, j);
         let start = raw / clock;
         let delta = (raw - raw_last) / clock;
-        s = place_all(values, j, s, last, start, delta, a, b, c, d);
-        put_row(list, j + 1, totals_of(s, a, b, c, d));
+        s = place_all(
+            values,
+            j,
+            s,
+            last,
+            start,
+            delta,
+            aim,
+            aim_no_sliders,
+            speed,
+            flashlight,
+        );
+        let totals = totals_of(s, aim, aim_no_sliders, speed, flashlight);
+        put_row(list, j + 1, totals);
         raw_last = raw;
         last = start;
         j += 1;
@@ -287,13 +306,13 @@ fn fill_entries(
     clock: f64,
     values: &[f64],
     list: &mut [f64],
-    a: &mut [f64],
-    b: &mut [f64],
-    c: &mut [f64],
-    d: &mut [f64],
+    aim: &mut [f64],
+    aim_no_sliders: &mut [f64],
+    speed: &mut [f64],
+    flashlight: &mut [f64],
 )
     requires { ⌜ (Readable (now chart) lay (now values)) × (4 * (lay .n + 1) ≤ length (now list))
-        × (Roomy (now a)) × (Roomy (now b)) × (Roomy (now c)) × (Roomy (now d)) ⌝ }
+        × (Roomy (now aim)) × (Roomy (now «aim_no_sliders»)) × (Roomy (now speed)) × (Roomy (now flashlight)) ⌝ }
     ensures { λ _. ⌜ now (list .exit) ≡ fill 4 (rowAfter (now (chart .entry)) lay clock (now (values .entry))) 0 (lay .n + 1) (now (list .entry)) ⌝ }
 {
     let n = lay.n;
@@ -305,7 +324,17 @@ fn fill_entries(
     if n < 2 {
         return;
     }
-    play(chart, lay, clock, values, list, a, b, c, d);
+    play(
+        chart,
+        lay,
+        clock,
+        values,
+        list,
+        aim,
+        aim_no_sliders,
+        speed,
+        flashlight,
+    );
 }
 
 // The totals reached after the first m objects, for each m from 0 to n, the chart's objects: entry m of the list, four numbers, has the totals over places 1

@@ -12,21 +12,23 @@ use chart_opening::Verdict;
 const MOST: usize = 65536;
 
 // The line of a chart with its values.
-fn list(
-    out: &mut [u8],
-    chart: &[u8],
-    lay: Layout,
-    clock: f64,
-    values: &[f64],
-    a: &mut [f64],
-    b: &mut [f64],
-    c: &mut [f64],
-    d: &mut [f64],
-)
-    requires { ⌜ (Readable (now chart) lay (now values))
-        × (8192 ≤ length (now a)) × (8192 ≤ length (now b)) × (8192 ≤ length (now c)) × (8192 ≤ length (now d)) ⌝ }
+fn list(out: &mut [u8], chart: &[u8], lay: Layout, clock: f64, values: &[f64])
+    requires { ⌜ Readable (now chart) lay (now values) ⌝ }
 {
-    let counts = skills_counts::counts(chart, lay, clock, values, a, b, c, d);
+    let mut aim = [0.0f64; 8192];
+    let mut aim_no_sliders = [0.0f64; 8192];
+    let mut speed = [0.0f64; 8192];
+    let mut flashlight = [0.0f64; 8192];
+    let counts = skills_counts::counts(
+        chart,
+        lay,
+        clock,
+        values,
+        &mut aim[..],
+        &mut aim_no_sliders[..],
+        &mut speed[..],
+        &mut flashlight[..],
+    );
     let end = print_lines::put_counts(out, 0, counts);
     print_text::show(out, end);
 }
@@ -40,18 +42,8 @@ fn fill_tables(chart: &[u8], lay: Layout, set: Settings, t: &mut [f64], values: 
 }
 
 // The lines of one chart.
-fn answer(
-    out: &mut [u8],
-    chart: &[u8],
-    t: &mut [f64],
-    values: &mut [f64],
-    a: &mut [f64],
-    b: &mut [f64],
-    c: &mut [f64],
-    d: &mut [f64],
-)
-    requires { ⌜ (16384 ≤ length (now t)) × (5120 ≤ length (now values))
-        × (8192 ≤ length (now a)) × (8192 ≤ length (now b)) × (8192 ≤ length (now c)) × (8192 ≤ length (now d)) ⌝ }
+fn answer(out: &mut [u8], chart: &[u8], t: &mut [f64], values: &mut [f64])
+    requires { ⌜ (16384 ≤ length (now t)) × (5120 ≤ length (now values)) ⌝ }
 {
     match chart_opening::check(chart, 1024) {
         Verdict::Refused(r) => print_lines::show_refusal(out, r),
@@ -59,30 +51,20 @@ fn answer(
             let lay = chart_opening::layout_of(chart);
             let set = chart_opening::settings_at(chart, 32);
             fill_tables(chart, lay, set, t, values);
-            list(out, chart, lay, set.clock_rate, values, a, b, c, d);
+            list(out, chart, lay, set.clock_rate, values);
         }
     }
 }
 
 // Charts to the end of the input.
-fn run(
-    out: &mut [u8],
-    chart: &mut [u8],
-    t: &mut [f64],
-    values: &mut [f64],
-    a: &mut [f64],
-    b: &mut [f64],
-    c: &mut [f64],
-    d: &mut [f64],
-)
-    requires { ⌜ (16384 ≤ length (now t)) × (5120 ≤ length (now values))
-        × (8192 ≤ length (now a)) × (8192 ≤ length (now b)) × (8192 ≤ length (now c)) × (8192 ≤ length (now d)) ⌝ }
+fn run(out: &mut [u8], chart: &mut [u8], t: &mut [f64], values: &mut [f64])
+    requires { ⌜ (16384 ≤ length (now t)) × (5120 ≤ length (now values)) ⌝ }
 {
     let mut left = MOST;
     while 0 < left {
         let n = print_text::read_chart(chart);
         if n <= chart.len() {
-            answer(out, &chart[0..n], t, values, a, b, c, d);
+            answer(out, &chart[0..n], t, values);
             left -= 1;
         } else {
             left = 0;
@@ -95,18 +77,5 @@ fn main() {
     let mut chart = io::large_buffer();
     let mut t = [0.0f64; 16384];
     let mut values = [0.0f64; 5120];
-    let mut a = [0.0f64; 8192];
-    let mut b = [0.0f64; 8192];
-    let mut c = [0.0f64; 8192];
-    let mut d = [0.0f64; 8192];
-    run(
-        &mut out[..],
-        &mut chart[..],
-        &mut t[..],
-        &mut values[..],
-        &mut a[..],
-        &mut b[..],
-        &mut c[..],
-        &mut d[..],
-    );
+    run(&mut out[..], &mut chart[..], &mut t[..], &mut values[..]);
 }

@@ -110,15 +110,36 @@ fn carry_out(
     asked: Asked,
     records: &mut [f64],
     values: &mut [f64],
-    a: &mut [f64],
-    b: &mut [f64],
-    c: &mut [f64],
-    d: &mut [f64],
+    aim: &mut [f64],
+    aim_no_sliders: &mut [f64],
+    speed: &mut [f64],
+    flashlight: &mut [f64],
 ) -> Verdict {
     if kind == 1 {
-        return pack::join(pack, list, first, asked, records, values, a, b, c, d);
+        return pack::join(
+            pack,
+            list,
+            first,
+            asked,
+            records,
+            values,
+            aim,
+            aim_no_sliders,
+            speed,
+            flashlight,
+        );
     }
-    pack::rank(pack, list, asked, records, values, a, b, c, d)
+    pack::rank(
+        pack,
+        list,
+        asked,
+        records,
+        values,
+        aim,
+        aim_no_sliders,
+        speed,
+        flashlight,
+    )
 }
 
 // A hash of list and tables.
@@ -128,11 +149,17 @@ fn hash_all(list: &[usize], records: &[f64], values: &[f64]) -> u64 {
 }
 
 // Whether all scratch is x, bit for bit.
-fn all_hold(a: &[f64], b: &[f64], c: &[f64], d: &[f64], x: f64) -> bool {
-    test_replays::lines::holds(a, x)
-        & test_replays::lines::holds(b, x)
-        & test_replays::lines::holds(c, x)
-        & test_replays::lines::holds(d, x)
+fn all_hold(
+    aim: &[f64],
+    aim_no_sliders: &[f64],
+    speed: &[f64],
+    flashlight: &[f64],
+    x: f64,
+) -> bool {
+    test_replays::lines::holds(aim, x)
+        & test_replays::lines::holds(aim_no_sliders, x)
+        & test_replays::lines::holds(speed, x)
+        & test_replays::lines::holds(flashlight, x)
 }
 
 // Ranks a list with tables and scratch as they are lent, and puts the line.
@@ -145,16 +172,28 @@ fn rank_with(
     asked: Asked,
     records: &mut [f64],
     values: &mut [f64],
-    a: &mut [f64],
-    b: &mut [f64],
-    c: &mut [f64],
-    d: &mut [f64],
+    aim: &mut [f64],
+    aim_no_sliders: &mut [f64],
+    speed: &mut [f64],
+    flashlight: &mut [f64],
 ) -> usize {
     let before = hash_all(list, records, values);
-    let v = carry_out(kind, pack, list, first, asked, records, values, a, b, c, d);
+    let v = carry_out(
+        kind,
+        pack,
+        list,
+        first,
+        asked,
+        records,
+        values,
+        aim,
+        aim_no_sliders,
+        speed,
+        flashlight,
+    );
     let same = before == hash_all(list, records, values);
-    let unused = all_hold(a, b, c, d, UNUSED);
-    let zero = all_hold(a, b, c, d, 0.0);
+    let unused = all_hold(aim, aim_no_sliders, speed, flashlight, UNUSED);
+    let zero = all_hold(aim, aim_no_sliders, speed, flashlight, 0.0);
     put_verdict(out, v, list, same & unused, zero)
 }
 
@@ -167,10 +206,10 @@ fn rank(
     values: &mut [f64],
 ) -> usize {
     let mut list = [0usize; 512];
-    let mut a = [UNUSED; 9000];
-    let mut b = [UNUSED; 9000];
-    let mut c = [UNUSED; 9000];
-    let mut d = [UNUSED; 9000];
+    let mut aim = [UNUSED; 9000];
+    let mut aim_no_sliders = [UNUSED; 9000];
+    let mut speed = [UNUSED; 9000];
+    let mut flashlight = [UNUSED; 9000];
     let first = print_text::next_word();
     let asked = read_asked();
     let n = read_offsets(&mut list[..]);
@@ -189,10 +228,10 @@ fn rank(
         asked,
         &mut records[0..r],
         &mut values[0..v],
-        &mut a[0..x],
-        &mut b[0..y],
-        &mut c[0..z],
-        &mut d[0..w],
+        &mut aim[0..x],
+        &mut aim_no_sliders[0..y],
+        &mut speed[0..z],
+        &mut flashlight[0..w],
     )
 }
 

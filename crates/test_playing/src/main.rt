@@ -51,24 +51,27 @@ fn put_entries(out: &mut [u8], at: usize, n: usize, list: &[f64]) -> usize
 }
 
 // The number of objects and the lines of all entries.
-fn put_list(
-    out: &mut [u8],
-    chart: &[u8],
-    lay: Layout,
-    clock: f64,
-    values: &[f64],
-    list: &mut [f64],
-    a: &mut [f64],
-    b: &mut [f64],
-    c: &mut [f64],
-    d: &mut [f64],
-) -> usize
-    requires { ⌜ (Readable (now chart) lay (now values)) × (lay .n ≤ 1024) × (4100 ≤ length (now list))
-        × (8192 ≤ length (now a)) × (8192 ≤ length (now b)) × (8192 ≤ length (now c)) × (8192 ≤ length (now d)) ⌝ }
+fn put_list(out: &mut [u8], chart: &[u8], lay: Layout, clock: f64, values: &[f64]) -> usize
+    requires { ⌜ (Readable (now chart) lay (now values)) × (lay .n ≤ 1024) ⌝ }
 {
-    skills_playing::totals_while_playing(chart, lay, clock, values, list, a, b, c, d);
+    let mut list = [0.0f64; 4100];
+    let mut aim = [0.0f64; 8192];
+    let mut aim_no_sliders = [0.0f64; 8192];
+    let mut speed = [0.0f64; 8192];
+    let mut flashlight = [0.0f64; 8192];
+    skills_playing::totals_while_playing(
+        chart,
+        lay,
+        clock,
+        values,
+        &mut list[..],
+        &mut aim[..],
+        &mut aim_no_sliders[..],
+        &mut speed[..],
+        &mut flashlight[..],
+    );
     let count = print_lines::put_count(out, 0, lay.n);
-    put_entries(out, count, lay.n, list)
+    put_entries(out, count, lay.n, &list[..])
 }
 
 // The line of the totals after half of the objects.
@@ -79,39 +82,36 @@ fn put_half(
     lay: Layout,
     clock: f64,
     values: &[f64],
-    a: &mut [f64],
-    b: &mut [f64],
-    c: &mut [f64],
-    d: &mut [f64],
 ) -> usize
-    requires { ⌜ (Readable (now chart) lay (now values)) × (lay .n ≤ 1024)
-        × (8192 ≤ length (now a)) × (8192 ≤ length (now b)) × (8192 ≤ length (now c)) × (8192 ≤ length (now d)) ⌝ }
+    requires { ⌜ (Readable (now chart) lay (now values)) × (lay .n ≤ 1024) ⌝ }
 {
     let m = lay.n / 2;
-    let totals = skills_playing::totals_to(chart, lay, clock, values, m, a, b, c, d);
+    let mut aim = [0.0f64; 8192];
+    let mut aim_no_sliders = [0.0f64; 8192];
+    let mut speed = [0.0f64; 8192];
+    let mut flashlight = [0.0f64; 8192];
+    let totals = skills_playing::totals_to(
+        chart,
+        lay,
+        clock,
+        values,
+        m,
+        &mut aim[..],
+        &mut aim_no_sliders[..],
+        &mut speed[..],
+        &mut flashlight[..],
+    );
     let word = print_text::put_all(out, at, b"prefix ");
     let place = print_text::put_decimal(out, word, m as u64);
     print_lines::put_skills(out, place, totals)
 }
 
 // All lines of a chart with its values.
-fn put_lines(
-    out: &mut [u8],
-    chart: &[u8],
-    lay: Layout,
-    clock: f64,
-    values: &[f64],
-    list: &mut [f64],
-    a: &mut [f64],
-    b: &mut [f64],
-    c: &mut [f64],
-    d: &mut [f64],
-)
-    requires { ⌜ (Readable (now chart) lay (now values)) × (lay .n ≤ 1024) × (4100 ≤ length (now list))
-        × (8192 ≤ length (now a)) × (8192 ≤ length (now b)) × (8192 ≤ length (now c)) × (8192 ≤ length (now d)) ⌝ }
+fn put_lines(out: &mut [u8], chart: &[u8], lay: Layout, clock: f64, values: &[f64])
+    requires { ⌜ (Readable (now chart) lay (now values)) × (lay .n ≤ 1024) ⌝ }
 {
-    let entries = put_list(out, chart, lay, clock, values, list, a, b, c, d);
-    let end = put_half(out, entries, chart, lay, clock, values, a, b, c, d);
+    let entries = put_list(out, chart, lay, clock, values);
+    let end = put_half(out, entries, chart, lay, clock, values);
     print_text::show(out, end);
 }
 
@@ -124,19 +124,8 @@ fn fill_tables(chart: &[u8], lay: Layout, set: Settings, t: &mut [f64], values: 
 }
 
 // The lines of one chart.
-fn answer(
-    out: &mut [u8],
-    chart: &[u8],
-    t: &mut [f64],
-    values: &mut [f64],
-    list: &mut [f64],
-    a: &mut [f64],
-    b: &mut [f64],
-    c: &mut [f64],
-    d: &mut [f64],
-)
-    requires { ⌜ (16384 ≤ length (now t)) × (5120 ≤ length (now values)) × (4100 ≤ length (now list))
-        × (8192 ≤ length (now a)) × (8192 ≤ length (now b)) × (8192 ≤ length (now c)) × (8192 ≤ length (now d)) ⌝ }
+fn answer(out: &mut [u8], chart: &[u8], t: &mut [f64], values: &mut [f64])
+    requires { ⌜ (16384 ≤ length (now t)) × (5120 ≤ length (now values)) ⌝ }
 {
     match chart_opening::check(chart, 1024) {
         Verdict::Refused(r) => print_lines::show_refusal(out, r),
@@ -144,31 +133,20 @@ fn answer(
             let lay = chart_opening::layout_of(chart);
             let set = chart_opening::settings_at(chart, 32);
             fill_tables(chart, lay, set, t, values);
-            put_lines(out, chart, lay, set.clock_rate, values, list, a, b, c, d);
+            put_lines(out, chart, lay, set.clock_rate, values);
         }
     }
 }
 
 // Charts to the end of the input.
-fn run(
-    out: &mut [u8],
-    chart: &mut [u8],
-    t: &mut [f64],
-    values: &mut [f64],
-    list: &mut [f64],
-    a: &mut [f64],
-    b: &mut [f64],
-    c: &mut [f64],
-    d: &mut [f64],
-)
-    requires { ⌜ (16384 ≤ length (now t)) × (5120 ≤ length (now values)) × (4100 ≤ length (now list))
-        × (8192 ≤ length (now a)) × (8192 ≤ length (now b)) × (8192 ≤ length (now c)) × (8192 ≤ length (now d)) ⌝ }
+fn run(out: &mut [u8], chart: &mut [u8], t: &mut [f64], values: &mut [f64])
+    requires { ⌜ (16384 ≤ length (now t)) × (5120 ≤ length (now values)) ⌝ }
 {
     let mut left = MOST;
     while 0 < left {
         let n = print_text::read_chart(chart);
         if n <= chart.len() {
-            answer(out, &chart[0..n], t, values, list, a, b, c, d);
+            answer(out, &chart[0..n], t, values);
             left -= 1;
         } else {
             left = 0;
@@ -181,20 +159,5 @@ fn main() {
     let mut chart = io::large_buffer();
     let mut t = [0.0f64; 16384];
     let mut values = [0.0f64; 5120];
-    let mut list = [0.0f64; 4100];
-    let mut a = [0.0f64; 8192];
-    let mut b = [0.0f64; 8192];
-    let mut c = [0.0f64; 8192];
-    let mut d = [0.0f64; 8192];
-    run(
-        &mut out[..],
-        &mut chart[..],
-        &mut t[..],
-        &mut values[..],
-        &mut list[..],
-        &mut a[..],
-        &mut b[..],
-        &mut c[..],
-        &mut d[..],
-    );
+    run(&mut out[..], &mut chart[..], &mut t[..], &mut values[..]);
 }

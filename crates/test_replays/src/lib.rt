@@ -111,23 +111,31 @@ fn open_as(chart: &[u8], settings: &[u8], records: &mut [f64], values: &mut [f64
 fn totals(
     chart: &[u8],
     values: &[f64],
-    a: &mut [f64],
-    b: &mut [f64],
-    c: &mut [f64],
-    d: &mut [f64],
+    aim: &mut [f64],
+    aim_no_sliders: &mut [f64],
+    speed: &mut [f64],
+    flashlight: &mut [f64],
 ) {
     let mut out = [0u8; 512];
-    let answer = calls_figures::totals(chart, values, a, b, c, d);
-    let end = lines::put_totals(&mut out[..], 0, answer, a, b, c, d);
+    let answer = calls_figures::totals(chart, values, aim, aim_no_sliders, speed, flashlight);
+    let end = lines::put_totals(
+        &mut out[..],
+        0,
+        answer,
+        aim,
+        aim_no_sliders,
+        speed,
+        flashlight,
+    );
     print_text::show(&out[..], end);
 }
 
 // Reads the lengths before the call.
 fn read_and_total(chart: &[u8], values: &[f64]) {
-    let mut a = [7.5f64; 9216];
-    let mut b = [7.5f64; 9216];
-    let mut c = [7.5f64; 9216];
-    let mut d = [7.5f64; 9216];
+    let mut aim = [lines::UNUSED; 9216];
+    let mut aim_no_sliders = [lines::UNUSED; 9216];
+    let mut speed = [lines::UNUSED; 9216];
+    let mut flashlight = [lines::UNUSED; 9216];
     let v = print_text::next_length(values.len());
     let m = print_text::next_length(9216);
     let n = print_text::next_length(9216);
@@ -136,10 +144,10 @@ fn read_and_total(chart: &[u8], values: &[f64]) {
     totals(
         chart,
         &values[0..v],
-        &mut a[0..m],
-        &mut b[0..n],
-        &mut c[0..o],
-        &mut d[0..p],
+        &mut aim[0..m],
+        &mut aim_no_sliders[0..n],
+        &mut speed[0..o],
+        &mut flashlight[0..p],
     );
 }
 
@@ -148,23 +156,39 @@ fn totals_as(
     chart: &[u8],
     settings: &[u8],
     values: &[f64],
-    a: &mut [f64],
-    b: &mut [f64],
-    c: &mut [f64],
-    d: &mut [f64],
+    aim: &mut [f64],
+    aim_no_sliders: &mut [f64],
+    speed: &mut [f64],
+    flashlight: &mut [f64],
 ) {
     let mut out = [0u8; 512];
-    let answer = calls_figures::totals_as(chart, settings, values, a, b, c, d);
-    let end = lines::put_totals(&mut out[..], 0, answer, a, b, c, d);
+    let answer = calls_figures::totals_as(
+        chart,
+        settings,
+        values,
+        aim,
+        aim_no_sliders,
+        speed,
+        flashlight,
+    );
+    let end = lines::put_totals(
+        &mut out[..],
+        0,
+        answer,
+        aim,
+        aim_no_sliders,
+        speed,
+        flashlight,
+    );
     print_text::show(&out[..], end);
 }
 
 // Reads the lengths before the call.
 fn read_and_total_as(chart: &[u8], settings: &[u8], values: &[f64]) {
-    let mut a = [7.5f64; 9216];
-    let mut b = [7.5f64; 9216];
-    let mut c = [7.5f64; 9216];
-    let mut d = [7.5f64; 9216];
+    let mut aim = [lines::UNUSED; 9216];
+    let mut aim_no_sliders = [lines::UNUSED; 9216];
+    let mut speed = [lines::UNUSED; 9216];
+    let mut flashlight = [lines::UNUSED; 9216];
     let v = print_text::next_length(values.len());
     let m = print_text::next_length(9216);
     let n = print_text::next_length(9216);
@@ -174,10 +198,10 @@ fn read_and_total_as(chart: &[u8], settings: &[u8], values: &[f64]) {
         chart,
         settings,
         &values[0..v],
-        &mut a[0..m],
-        &mut b[0..n],
-        &mut c[0..o],
-        &mut d[0..p],
+        &mut aim[0..m],
+        &mut aim_no_sliders[0..n],
+        &mut speed[0..o],
+        &mut flashlight[0..p],
     );
 }
 

@@ -77,7 +77,7 @@ pub fn put_verdict(
             if before == after {
                 return end;
             }
-            print_text::put_all(out, end, b"changed by a refused call\n")
+            print_text::put_all(out, end, b"changed by aim refused call\n")
         }
     }
 }
@@ -108,11 +108,19 @@ pub fn put_values(out: &mut [u8], at: usize, place: usize, answer: ValuesAnswer)
 pub fn put_aim_parts(out: &mut [u8], at: usize, place: usize, answer: AimAnswer) -> usize {
     match answer {
         AimAnswer::Refused(x) => print_lines::put_refusal(out, at, x),
-        AimAnswer::Aim(d) => {
-            let with = d.parts;
-            let without = d.parts_no_sliders;
+        AimAnswer::Aim(flashlight) => {
+            let with = flashlight.parts;
+            let without = flashlight.parts_no_sliders;
             let word = print_text::put_all(out, at, b"parts ");
-            print_lines::put_aim(out, word, place, d.value, with, d.value_no_sliders, without)
+            print_lines::put_aim(
+                out,
+                word,
+                place,
+                flashlight.value,
+                with,
+                flashlight.value_no_sliders,
+                without,
+            )
         }
     }
 }
@@ -121,9 +129,9 @@ pub fn put_aim_parts(out: &mut [u8], at: usize, place: usize, answer: AimAnswer)
 pub fn put_rhythm(out: &mut [u8], at: usize, place: usize, answer: RhythmAnswer) -> usize {
     match answer {
         RhythmAnswer::Refused(x) => print_lines::put_refusal(out, at, x),
-        RhythmAnswer::Rhythm(c) => {
+        RhythmAnswer::Rhythm(speed) => {
             let word = print_text::put_all(out, at, b"rhythm ");
-            print_lines::put_rhythm(out, word, place, c)
+            print_lines::put_rhythm(out, word, place, speed)
         }
     }
 }
@@ -145,12 +153,12 @@ fn put_scratch(
     out: &mut [u8],
     at: usize,
     x: f64,
-    a: &[f64],
-    b: &[f64],
-    c: &[f64],
-    d: &[f64],
+    aim: &[f64],
+    aim_no_sliders: &[f64],
+    speed: &[f64],
+    flashlight: &[f64],
 ) -> usize {
-    if holds(a, x) & holds(b, x) & holds(c, x) & holds(d, x) {
+    if holds(aim, x) & holds(aim_no_sliders, x) & holds(speed, x) & holds(flashlight, x) {
         return at;
     }
     print_text::put_all(out, at, b"scratch is not left as it should be\n")
@@ -161,19 +169,19 @@ pub fn put_totals(
     out: &mut [u8],
     at: usize,
     answer: TotalsAnswer,
-    a: &[f64],
-    b: &[f64],
-    c: &[f64],
-    d: &[f64],
+    aim: &[f64],
+    aim_no_sliders: &[f64],
+    speed: &[f64],
+    flashlight: &[f64],
 ) -> usize {
     match answer {
         TotalsAnswer::Refused(x) => {
             let end = print_lines::put_refusal(out, at, x);
-            put_scratch(out, end, UNUSED, a, b, c, d)
+            put_scratch(out, end, UNUSED, aim, aim_no_sliders, speed, flashlight)
         }
         TotalsAnswer::Totals(t) => {
             let end = print_lines::put_totals(out, at, t);
-            put_scratch(out, end, 0.0, a, b, c, d)
+            put_scratch(out, end, 0.0, aim, aim_no_sliders, speed, flashlight)
         }
     }
 }

@@ -24,53 +24,64 @@ fn put_places(
     out: &mut [u8],
     at: usize,
     n: usize,
-    a: &[f64],
-    b: &[f64],
-    c: &[f64],
-    d: &[f64],
+    aim: &[f64],
+    aim_no_sliders: &[f64],
+    speed: &[f64],
+    flashlight: &[f64],
 ) -> usize {
     let mut end = at;
     let mut j = 1;
     while j < n {
         end = print_text::show_if_full(out, end);
         end = print_text::put_decimal(out, end, j as u64);
-        let aim = number_at(a, j);
-        let aim_no_sliders = number_at(b, j);
-        let speed = number_at(c, j);
-        let flashlight = number_at(d, j);
-        end = print_lines::put_skills(
-            out,
-            end,
-            Skills {
-                aim,
-                aim_no_sliders,
-                speed,
-                flashlight,
-            },
-        );
+        let strains = Skills {
+            aim: number_at(aim, j),
+            aim_no_sliders: number_at(aim_no_sliders, j),
+            speed: number_at(speed, j),
+            flashlight: number_at(flashlight, j),
+        };
+        end = print_lines::put_skills(out, end, strains);
         j += 1;
     }
     end
 }
 
-// The strains of all places, a list for each skill.
-fn fill_strains(
-    chart: &[u8],
-    lay: Layout,
-    clock: f64,
-    values: &[f64],
-    a: &mut [f64],
-    b: &mut [f64],
-    c: &mut [f64],
-    d: &mut [f64],
-)
-    requires { ⌜ (Readable (now chart) lay (now values)) × (lay .n ≤ 1024)
-        × (8192 ≤ length (now a)) × (8192 ≤ length (now b)) × (8192 ≤ length (now c)) × (8192 ≤ length (now d)) ⌝ }
+// The number of objects and the lines of all places.
+fn put_strains(out: &mut [u8], chart: &[u8], lay: Layout, clock: f64, values: &[f64]) -> usize
+    requires { ⌜ (Readable (now chart) lay (now values)) × (lay .n ≤ 1024) ⌝ }
 {
-    skills::strains_into(chart, lay, clock, values, Skill::Aim, a);
-    skills::strains_into(chart, lay, clock, values, Skill::AimNoSliders, b);
-    skills::strains_into(chart, lay, clock, values, Skill::Speed, c);
-    skills::strains_into(chart, lay, clock, values, Skill::Flashlight, d);
+    let mut aim = [0.0f64; 1024];
+    let mut aim_no_sliders = [0.0f64; 1024];
+    let mut speed = [0.0f64; 1024];
+    let mut flashlight = [0.0f64; 1024];
+    skills::strains_into(chart, lay, clock, values, Skill::Aim, &mut aim[..]);
+    skills::strains_into(
+        chart,
+        lay,
+        clock,
+        values,
+        Skill::AimNoSliders,
+        &mut aim_no_sliders[..],
+    );
+    skills::strains_into(chart, lay, clock, values, Skill::Speed, &mut speed[..]);
+    skills::strains_into(
+        chart,
+        lay,
+        clock,
+        values,
+        Skill::Flashlight,
+        &mut flashlight[..],
+    );
+    let count = print_lines::put_count(out, 0, lay.n);
+    put_places(
+        out,
+        count,
+        lay.n,
+        &aim[..],
+        &aim_no_sliders[..],
+        &speed[..],
+        &flashlight[..],
+    )
 }
 
 // The totals' line.
@@ -81,55 +92,32 @@ fn put_totals(
     lay: Layout,
     clock: f64,
     values: &[f64],
-    a: &mut [f64],
-    b: &mut [f64],
-    c: &mut [f64],
-    d: &mut [f64],
 ) -> usize
-    requires { ⌜ (Readable (now chart) lay (now values))
-        × (8192 ≤ length (now a)) × (8192 ≤ length (now b)) × (8192 ≤ length (now c)) × (8192 ≤ length (now d)) ⌝ }
+    requires { ⌜ Readable (now chart) lay (now values) ⌝ }
 {
-    let totals = skills::totals(chart, lay, clock, values, a, b, c, d);
+    let mut aim = [0.0f64; 8192];
+    let mut aim_no_sliders = [0.0f64; 8192];
+    let mut speed = [0.0f64; 8192];
+    let mut flashlight = [0.0f64; 8192];
+    let totals = skills::totals(
+        chart,
+        lay,
+        clock,
+        values,
+        &mut aim[..],
+        &mut aim_no_sliders[..],
+        &mut speed[..],
+        &mut flashlight[..],
+    );
     print_lines::put_totals(out, at, totals)
 }
 
-// The number of objects and the lines of all places. The scratch holds the strains.
-fn put_strains(
-    out: &mut [u8],
-    chart: &[u8],
-    lay: Layout,
-    clock: f64,
-    values: &[f64],
-    a: &mut [f64],
-    b: &mut [f64],
-    c: &mut [f64],
-    d: &mut [f64],
-) -> usize
-    requires { ⌜ (Readable (now chart) lay (now values)) × (lay .n ≤ 1024)
-        × (8192 ≤ length (now a)) × (8192 ≤ length (now b)) × (8192 ≤ length (now c)) × (8192 ≤ length (now d)) ⌝ }
-{
-    fill_strains(chart, lay, clock, values, a, b, c, d);
-    let count = print_lines::put_count(out, 0, lay.n);
-    put_places(out, count, lay.n, a, b, c, d)
-}
-
 // All lines of a chart with its values.
-fn list(
-    out: &mut [u8],
-    chart: &[u8],
-    lay: Layout,
-    clock: f64,
-    values: &[f64],
-    a: &mut [f64],
-    b: &mut [f64],
-    c: &mut [f64],
-    d: &mut [f64],
-)
-    requires { ⌜ (Readable (now chart) lay (now values)) × (lay .n ≤ 1024)
-        × (8192 ≤ length (now a)) × (8192 ≤ length (now b)) × (8192 ≤ length (now c)) × (8192 ≤ length (now d)) ⌝ }
+fn list(out: &mut [u8], chart: &[u8], lay: Layout, clock: f64, values: &[f64])
+    requires { ⌜ (Readable (now chart) lay (now values)) × (lay .n ≤ 1024) ⌝ }
 {
-    let places = put_strains(out, chart, lay, clock, values, a, b, c, d);
-    let end = put_totals(out, places, chart, lay, clock, values, a, b, c, d);
+    let places = put_strains(out, chart, lay, clock, values);
+    let end = put_totals(out, places, chart, lay, clock, values);
     print_text::show(out, end);
 }
 
@@ -142,18 +130,8 @@ fn fill_tables(chart: &[u8], lay: Layout, set: Settings, t: &mut [f64], values: 
 }
 
 // The lines of one chart.
-fn answer(
-    out: &mut [u8],
-    chart: &[u8],
-    t: &mut [f64],
-    values: &mut [f64],
-    a: &mut [f64],
-    b: &mut [f64],
-    c: &mut [f64],
-    d: &mut [f64],
-)
-    requires { ⌜ (16384 ≤ length (now t)) × (5120 ≤ length (now values))
-        × (8192 ≤ length (now a)) × (8192 ≤ length (now b)) × (8192 ≤ length (now c)) × (8192 ≤ length (now d)) ⌝ }
+fn answer(out: &mut [u8], chart: &[u8], t: &mut [f64], values: &mut [f64])
+    requires { ⌜ (16384 ≤ length (now t)) × (5120 ≤ length (now values)) ⌝ }
 {
     match chart_opening::check(chart, 1024) {
         Verdict::Refused(r) => print_lines::show_refusal(out, r),
@@ -161,30 +139,20 @@ fn answer(
             let lay = chart_opening::layout_of(chart);
             let set = chart_opening::settings_at(chart, 32);
             fill_tables(chart, lay, set, t, values);
-            list(out, chart, lay, set.clock_rate, values, a, b, c, d);
+            list(out, chart, lay, set.clock_rate, values);
         }
     }
 }
 
 // Charts to the end of the input.
-fn run(
-    out: &mut [u8],
-    chart: &mut [u8],
-    t: &mut [f64],
-    values: &mut [f64],
-    a: &mut [f64],
-    b: &mut [f64],
-    c: &mut [f64],
-    d: &mut [f64],
-)
-    requires { ⌜ (16384 ≤ length (now t)) × (5120 ≤ length (now values))
-        × (8192 ≤ length (now a)) × (8192 ≤ length (now b)) × (8192 ≤ length (now c)) × (8192 ≤ length (now d)) ⌝ }
+fn run(out: &mut [u8], chart: &mut [u8], t: &mut [f64], values: &mut [f64])
+    requires { ⌜ (16384 ≤ length (now t)) × (5120 ≤ length (now values)) ⌝ }
 {
     let mut left = MOST;
     while 0 < left {
         let n = print_text::read_chart(chart);
         if n <= chart.len() {
-            answer(out, &chart[0..n], t, values, a, b, c, d);
+            answer(out, &chart[0..n], t, values);
             left -= 1;
         } else {
             left = 0;
@@ -197,18 +165,5 @@ fn main() {
     let mut chart = io::large_buffer();
     let mut t = [0.0f64; 16384];
     let mut values = [0.0f64; 5120];
-    let mut a = [0.0f64; 8192];
-    let mut b = [0.0f64; 8192];
-    let mut c = [0.0f64; 8192];
-    let mut d = [0.0f64; 8192];
-    run(
-        &mut out[..],
-        &mut chart[..],
-        &mut t[..],
-        &mut values[..],
-        &mut a[..],
-        &mut b[..],
-        &mut c[..],
-        &mut d[..],
-    );
+    run(&mut out[..], &mut chart[..], &mut t[..], &mut values[..]);
 }

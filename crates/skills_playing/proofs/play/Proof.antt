@@ -12,11 +12,11 @@ use Rattle.skills_playing.proofs.play.Statement.{statement}
 use Rattle.skills_playing.proofs.play.Tie as tie
 
 abbrev Inv-loop : tie.InvT-loop
-Inv-loop chart lay clock values list₀ a₀ b₀ c₀ d₀ n s₀ raw-last₀ last₀ j₀ list a b c d s raw-last last j =
-    (Walking chart lay clock values list₀ n a b c d list s raw-last last j) × (length a ≡ length a₀) × (length b ≡ length b₀) × (length c ≡ length c₀) × (length d ≡ length d₀)
+Inv-loop chart lay clock values list₀ aim₀ aim-no-sliders₀ speed₀ flashlight₀ n s₀ raw-last₀ last₀ j₀ list aim aim-no-sliders speed flashlight s raw-last last j =
+    (Walking chart lay clock values list₀ n aim aim-no-sliders speed flashlight list s raw-last last j) × (length aim ≡ length aim₀) × (length aim-no-sliders ≡ length aim-no-sliders₀) × (length speed ≡ length speed₀) × (length flashlight ≡ length flashlight₀)
 
 abbrev μ-loop : tie.MeasureT-loop
-μ-loop chart lay clock values list₀ a₀ b₀ c₀ d₀ n s₀ raw-last₀ last₀ j₀ list a b c d s raw-last last j = n - j
+μ-loop chart lay clock values list₀ aim₀ aim-no-sliders₀ speed₀ flashlight₀ n s₀ raw-last₀ last₀ j₀ list aim aim-no-sliders speed flashlight s raw-last last j = n - j
 
 raw-start-requires : tie.Need-raw-start-requires Inv-loop μ-loop
 raw-start-requires c κs = (c .before .before .before .before .before .before .before .pre .0 .holds, omega (arith, c .before .before .before .before .before .before .before .pre .1))
@@ -31,7 +31,7 @@ loop-holds : tie.Need-loop-holds Inv-loop μ-loop
 loop-holds c =
     let a = c .before .before .before .before .before .before .before .before .before .before .args in
     let p = c .before .before .before .before .before .before .before .before .before .before .pre in (
-      walking-first (a .chart .now) (a .lay) (a .clock) (a .values .now) (a .list .now) (a .lay .n) (a .a .now) (a .b .now) (a .c .now) (a .d .now) (p .3) (p .4) (p .5) (p .6) (p .1) (c .raw-start2 .result) (c .raw-start2 .ensures) (c .before .first-played .result)
+      walking-first (a .chart .now) (a .lay) (a .clock) (a .values .now) (a .list .now) (a .lay .n) (a .aim .now) (a .aim-no-sliders .now) (a .speed .now) (a .flashlight .now) (p .3) (p .4) (p .5) (p .6) (p .1) (c .raw-start2 .result) (c .raw-start2 .ensures) (c .before .first-played .result)
           (c .before .first-played .ensures ∙ ap (λ (x : Float). firstPlayed (x ⊘ a .clock)) (c .before .before .raw-start .ensures)),
       refl,
       refl,
@@ -45,13 +45,13 @@ raw-start-requires-3 c κs = (c .before .before .before .before .before .before 
 place-all-requires : tie.Need-place-all-requires Inv-loop μ-loop
 place-all-requires c κs = (c .before .before .before .before .before .before .loop .inv .0 .fit, c .before .before .before .before .before .before .loop .inv .0 .from, omega (arith, c .before .before .before .before .before .loop-test .taken, c .before .before .before .before .before .before .before .before .before .before .before .before .before .before .before .before .before .pre .0 .rows))
 
-add-put-row : tie.Need-add-put-row Inv-loop μ-loop
-add-put-row c = omega (arith, c .before .before .before .before .before .before .before .before .before .before .before .before .before .before .before .loop-test .taken, c .before .before .before .before .before .before .before .before .before .before .before .before .before .before .before .before .before .before .before .before .before .before .before .before .before .before .before .pre .0 .holds .few)
-
 totals-of-requires : tie.Need-totals-of-requires Inv-loop μ-loop
 totals-of-requires c κs =
-    let p = c .before .before .before .before .before .before .before .before .before .before .before .before .before .place-all .ensures in
+    let p = c .before .before .before .before .before .before .before .before .before .before .before .before .place-all .ensures in
     record { first = p .first .fit; second = p .second .fit; third = p .third .fit; fourth = p .fourth .fit }
+
+add-put-row : tie.Need-add-put-row Inv-loop μ-loop
+add-put-row c = omega (arith, c .before .before .before .before .before .before .before .before .before .before .before .before .before .before .before .before .before .before .before .before .loop-test .taken, c .before .before .before .before .before .before .before .before .before .before .before .before .before .before .before .before .before .before .before .before .before .before .before .before .before .before .before .before .before .before .before .before .pre .0 .holds .few)
 
 put-row-requires : tie.Need-put-row-requires Inv-loop μ-loop
 put-row-requires c κs = omega (arith, c .before .before .before .before .before .before .before .before .before .before .before .before .before .before .before .before .before .before .before .before .before .loop .inv .0 .kept, c .before .before .before .before .before .before .before .before .before .before .before .before .before .before .before .before .before .before .before .before .loop-test .taken, c .before .before .before .before .before .before .before .before .before .before .before .before .before .before .before .before .before .before .before .before .before .before .before .before .before .before .before .before .before .before .before .before .pre .2)
@@ -66,7 +66,7 @@ loop-again : tie.Need-loop-again Inv-loop μ-loop
 loop-again c =
     let p = c .before .before .before .before .before .before .before .before .before .before .before .before .before .before .before .before .before .place-all in
     let i = c .before .before .before .before .before .before .before .before .before .before .before .before .before .before .before .before .before .before .before .before .before .before .before .before .loop .inv in (
-      walking-next _ _ _ _ (i .0) (c .before .before .before .before .before .before .before .before .before .before .before .before .before .before .before .before .before .before .before .before .before .before .before .loop-test .taken) (c .before .before .before .before .before .before .before .before .before .before .before .before .before .before .before .before .before .before .before .before .before .before .raw-start3 .result) (c .before .before .before .before .before .before .before .before .before .before .before .before .before .before .before .before .before .before .before .before .before .before .raw-start3 .ensures) (p .last .1 .1 .1 .1 .1 .1 .0) (p .last .1 .1 .1 .1 .1 .1 .1 .0) (p .last .1 .1 .1 .1 .1 .1 .1 .1 .0) (p .last .1 .1 .1 .1 .1 .1 .1 .1 .1 .0) (p .result) (p .ensures) (c .before .before .before .totals-of .result) (c .before .before .before .totals-of .ensures) (c .before .before .put-row .last .0) (c .before .before .put-row .ensures) (c .before .before .put-row .kept .0),
+      walking-next _ _ _ _ (i .0) (c .before .before .before .before .before .before .before .before .before .before .before .before .before .before .before .before .before .before .before .before .before .before .before .loop-test .taken) (c .before .before .before .before .before .before .before .before .before .before .before .before .before .before .before .before .before .before .before .before .before .before .raw-start3 .result) (c .before .before .before .before .before .before .before .before .before .before .before .before .before .before .before .before .before .before .before .before .before .before .raw-start3 .ensures) (p .last .1 .1 .1 .1 .1 .1 .0) (p .last .1 .1 .1 .1 .1 .1 .1 .0) (p .last .1 .1 .1 .1 .1 .1 .1 .1 .0) (p .last .1 .1 .1 .1 .1 .1 .1 .1 .1 .0) (p .result) (p .ensures) (c .before .before .before .before .totals-of .result) (c .before .before .before .before .totals-of .ensures) (c .before .before .put-row .last .0) (c .before .before .put-row .ensures) (c .before .before .put-row .kept .0),
       p .kept .1 .1 .1 .1 .1 .1 .0 ∙ i .1,
       p .kept .1 .1 .1 .1 .1 .1 .1 .0 ∙ i .2,
       p .kept .1 .1 .1 .1 .1 .1 .1 .1 .0 ∙ i .3,
@@ -103,8 +103,8 @@ play-spec =
     loop-holds
     raw-start-requires-3
     place-all-requires
-    add-put-row
     totals-of-requires
+    add-put-row
     put-row-requires
     add-j
     loop-less

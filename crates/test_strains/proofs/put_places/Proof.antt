@@ -7,10 +7,10 @@ use Rattle.test_strains.proofs.put_places.Statement.{statement}
 use Rattle.test_strains.proofs.put_places.Tie as tie
 
 abbrev Inv-loop : tie.InvT-loop
-Inv-loop out₀ at n a b c d end₀ j₀ out end j = length out ≡ length out₀
+Inv-loop out₀ at n aim aim-no-sliders speed flashlight end₀ j₀ out end j = length out ≡ length out₀
 
 abbrev μ-loop : tie.MeasureT-loop
-μ-loop out₀ at n a b c d end₀ j₀ out end j = n - j
+μ-loop out₀ at n aim aim-no-sliders speed flashlight end₀ j₀ out end j = n - j
 
 loop-holds : tie.Need-loop-holds Inv-loop μ-loop
 loop-holds c = search needs
