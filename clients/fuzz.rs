@@ -1,7 +1,8 @@
 //! Throws random charts, short tables and wild places at every call, and checks after each what holds of every answer; then edits a chart of 16,384 objects, and throws a quarter as many
-//! calls for two players (players.rs):
+//! calls for two players (players.rs) and some packs of charts (packs.rs):
 //!     fuzz SEED CALLS [FOLDER]
 //! With a folder, the charts, the calls and the answers are written there, for tools/fuzz_compare.py.
+mod packs;
 mod players;
 mod station;
 use station::{mods, object_size, Answer, Refusal, AIM, COUNTS, NUMBERS, OBJECT, RATINGS, RECORD, RHYTHM, SCRATCH, STATED_OBJECT, TOTALS, VALUES};
@@ -644,6 +645,14 @@ fn two_players(r: &mut Random, calls: u64, mut scratch: [Vec<f64>; 4]) {
     println!("{} edits were refused by the second player alone; {} of those carried out were on both players' own tables", tally.second, tally.compared);
 }
 
+/// Rankings and joinings, ten a pack.
+fn rankings(r: &mut Random, packs: u64) {
+    let mut tally = packs::Tally::default();
+    (0..packs).for_each(|_| packs::requests(r, &mut tally));
+    let [rank, join] = tally.calls;
+    println!("packs: {packs}; rank {rank}, join {join}, {} charts listed; carried out {}, refused by number {:?}", tally.charts, tally.refused[0], &tally.refused[1..]);
+}
+
 fn main() {
     let words: Vec<String> = std::env::args().skip(1).collect();
     let (seed, calls): (u64, u64) = (words[0].parse().unwrap(), words[1].parse().unwrap());
@@ -679,4 +688,5 @@ fn main() {
     }
     counts.print(seed, rounds);
     two_players(&mut r, calls / 4, scratch);
+    rankings(&mut r, calls / 2000);
 }

@@ -97,6 +97,10 @@ mod library {
             c: *mut u8, cl: usize, s: *const u8, tl: usize, place: usize, r: *mut f64, rl: usize, v: *mut f64, vl: usize,
             second_r: *mut f64, second_rl: usize, second_v: *mut f64, second_vl: usize,
         ) -> u64;
+        pub fn difficulty_rank(
+            p: *const u8, pl: usize, list: *mut u64, tl: usize, mods: u32, given: u32, numbers: *const f64, bl: usize, r: *mut f64, rl: usize,
+            v: *mut f64, vl: usize, aim: *mut f64, al: usize, still: *mut f64, nl: usize, speed: *mut f64, sl: usize, light: *mut f64, ll: usize,
+        ) -> u64;
         pub fn difficulty_join(
             p: *const u8, pl: usize, list: *mut u64, tl: usize, first: usize, mods: u32, given: u32, numbers: *const f64, bl: usize, r: *mut f64, rl: usize,
             v: *mut f64, vl: usize, aim: *mut f64, al: usize, still: *mut f64, nl: usize, speed: *mut f64, sl: usize, light: *mut f64, ll: usize,
@@ -374,7 +378,19 @@ pub fn remove_both(
     })
 }
 
-/// Puts a list of offsets into a pack in order, the higher chart first. The first `first` of them and the others may be listings already.
+/// Puts a list of offsets into a pack in order, the higher chart first.
+#[allow(clippy::too_many_arguments)]
+pub fn rank(pack: &[u8], list: &mut [u64], mods: u32, given: u32, numbers: &[f64], records: &mut [f64], values: &mut [f64], scratch: [&mut [f64]; 4]) -> Answer {
+    let [aim, still, speed, light] = scratch;
+    answer(unsafe {
+        library::difficulty_rank(
+            pack.as_ptr(), pack.len(), list.as_mut_ptr(), list.len(), mods, given, numbers.as_ptr(), numbers.len(), records.as_mut_ptr(), records.len(),
+            values.as_mut_ptr(), values.len(), aim.as_mut_ptr(), aim.len(), still.as_mut_ptr(), still.len(), speed.as_mut_ptr(), speed.len(), light.as_mut_ptr(), light.len(),
+        )
+    })
+}
+
+/// The same for two lists, one behind the other: the first `first` offsets and the others may be listings already.
 #[allow(clippy::too_many_arguments)]
 pub fn join(pack: &[u8], list: &mut [u64], first: usize, mods: u32, given: u32, numbers: &[f64], records: &mut [f64], values: &mut [f64], scratch: [&mut [f64]; 4]) -> Answer {
     let [aim, still, speed, light] = scratch;
