@@ -1,13 +1,15 @@
 // A chart's header and settings, and the conditions of opening in their order (document 01, "The chart" and "What each call answers").
 
 ghost use mathlib.Core.Path.{_≡_};
+ghost use mathlib.Core.Bool.{_&&_};
 ghost use Prim.Native.Nat.{_+_, _*_, _^_, _<_, _≤_};
+ghost use lib.Dec.{leb};
 ghost use lib.ListN.{length};
 ghost use Rattle.chart_fields.specs.Limits.{headerSize, pointSize};
 ghost use Rattle.chart_fields.specs.Objects.{Holds};
 ghost use Rattle.chart_fields.specs.Search.{firstBelow};
 ghost use Rattle.chart_opening.specs.Limits.{settingsSize};
-ghost use Rattle.chart_opening.specs.Header.{sizeFor, layoutOf, countsOk, offsetsOk, frameOk, flagsOk, headerOk};
+ghost use Rattle.chart_opening.specs.Header.{sizeFor, formatOf, layoutOf, countsOk, offsetsOk, frameOk, flagsOk, headerOk};
 ghost use Rattle.chart_opening.specs.Header.{settingsAt, settingsOk, farApart, tooLong};
 ghost use Rattle.chart_opening.specs.Conditions.{refusalNumber, refusalPlace, firstOf, atFault, bodyConditions, underConditions, openVerdict};
 use chart_fields::Layout;
@@ -112,11 +114,15 @@ pub fn layout_of(s: &[u8]) -> Layout
     }
 }
 
-// Whether the counts are within their limits.
-fn counts_ok(lay: Layout) -> bool
-    ensures { λ r. ⌜ r ≡ countsOk lay ⌝ }
+// Whether the counts are within their limits, and the word at 28 is 0 or 1.
+fn counts_ok(s: &[u8]) -> bool
+    requires { ⌜ headerSize ≤ length (now s) ⌝ }
+    ensures { λ r. ⌜ r ≡ (countsOk (layoutOf (now (s .entry))) && leb (formatOf (now (s .entry))) 1) ⌝ }
 {
-    (lay.n <= 16_384) & (lay.nested <= 65_536) & (lay.points <= 65_536)
+    num_floats::count_at(s, 0) <= 16_384
+        && num_floats::count_at(s, 4) <= 65_536
+        && num_floats::count_at(s, 8) <= 65_536
+        && num_floats::u32_at(s, 28) <= 1
 }
 
 // Whether the header's offsets and length are those of its counts, and the buffer has that length at least.
@@ -138,11 +144,10 @@ pub fn frame_ok(s: &[u8]) -> bool
     if s.len() < chart_fields::HEADER_SIZE {
         return false;
     }
-    let lay = layout_of(s);
-    if !(counts_ok(lay) & (num_floats::u32_at(s, 28) <= 1)) {
+    if !counts_ok(s) {
         return false;
     }
-    offsets_ok(s, lay)
+    offsets_ok(s, layout_of(s))
 }
 
 // Whether the flags' reserved bits are 0.

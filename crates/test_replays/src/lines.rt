@@ -1,5 +1,5 @@
-// Lines and hashes of the programs that replay scripts of calls. As in `print_text`, each function that puts something appends at an offset of a lent buffer and
-// returns the offset behind what it wrote.
+// Lines and hashes of the programs that replay scripts of calls. As in `print_text`, each function that puts something appends at an offset of a lent buffer
+// and returns the offset behind what it wrote.
 ghost use Prim.Native.Nat.{_≤_};
 use calls_figures::TotalsAnswer;
 use calls_readings::AimAnswer;
