@@ -162,9 +162,11 @@ fn slider_ok(f: Fields) -> bool
 fn kind_ok(f: Fields) -> bool
     ensures { λ r. ⌜ r ≡ kindOk f ⌝ }
 {
-    (f.kind == CIRCLE) & (f.end == f.start) & plain_ok(f)
-        | (f.kind == SLIDER) & slider_ok(f)
-        | (f.kind == SPINNER) & (f.start <= f.end) & plain_ok(f)
+    if f.kind == SLIDER {
+        return slider_ok(f);
+    }
+    ((f.kind == CIRCLE) & (f.end == f.start) | (f.kind == SPINNER) & (f.start <= f.end))
+        & plain_ok(f)
 }
 
 // Whether an object's own fields are right: condition 3 is that they are not.
