@@ -1,4 +1,6 @@
 // The functions on numbers, the evaluators and the check of a chart under C names, for the benchmarks.
+#![tactic(auto)]
+
 ghost use Rattle.std.specs.Prelude.{◌*◌, ◌≤◌, ◌<◌, length};
 ghost use Rattle.osu_object.specs.Osu.{Ready};
 

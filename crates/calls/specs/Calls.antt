@@ -106,8 +106,8 @@ pub record Outcome : Type 0 where
   pub answer : Answer
   pub leaves : State
 
-abbrev pub result : Answer → List ℕ → List Float → List Float → Outcome
-result x b rs vs = record { answer = x; leaves = state b rs vs }
+abbrev pub outcome_with : Answer → List ℕ → List Float → List Float → Outcome
+outcome_with x b rs vs = record { answer = x; leaves = state b rs vs }
 
 -- a call that meets a condition answers it and changes nothing
 unfoldable pub refuse : State → Refusal → Outcome

@@ -17,7 +17,7 @@ use Rattle.chart_inserting.specs.Insert.{insert_object, remove_object, insert_ve
 use Rattle.eval_values.specs.Values.{values_in}
 use Rattle.calls.specs.Tables.{record_width, value_width, entries_of}
 use Rattle.calls.specs.Conditions.{replace, insert, remove, opening, refusal}
-use Rattle.calls.specs.Calls.{open_start, open_made, replaced_records, replaced_values, inserted_records, inserted_values, removed_records, removed_values, first_moved, records_start, records_made, values_start, values_made, open_records, open_values, edit_records, edit_values, refused, replaced, inserted, removed, Outcome, State, state, result, refuse, opened, open_answer, open_leaves, edited, put_in, taken_out, execute, verdict_in, outcome}
+use Rattle.calls.specs.Calls.{open_start, open_made, replaced_records, replaced_values, inserted_records, inserted_values, removed_records, removed_values, first_moved, records_start, records_made, values_start, values_made, open_records, open_values, edit_records, edit_values, refused, replaced, inserted, removed, Outcome, State, state, outcome_with, refuse, opened, open_answer, open_leaves, edited, put_in, taken_out, execute, verdict_in, outcome}
 use Rattle.calls.proofs.Alone.{carried_out, refused_as}
 
 -- ---- What the loops leave is what opening and replacing leave
@@ -59,7 +59,7 @@ module _ (b : List ℕ) (rs vs : List Float) where
 
   module _ (k : ℕ) (o : List ℕ) where
     pub replace_refused : (r : Refusal) → replace_verdict b k o (entries_of (length rs) (length vs)) ≡ Refused r
-        → outcome (replace k o) (state b rs vs) ≡ result (refused r) b rs vs
+        → outcome (replace k o) (state b rs vs) ≡ outcome_with (refused r) b rs vs
     unfolding verdict_in refusal refuse
     replace_refused r e = refused_as (replace k o) (state b rs vs) r e
 
@@ -67,7 +67,7 @@ module _ (b : List ℕ) (rs vs : List Float) where
     abbrev brought : List ℕ → Outcome
     brought b' =
         let rs' = edit_records (settings_of b') b' k (replaced_records k) rs in
-        result replaced b' rs' (edit_values (settings_of b') b' k (replaced_values k) rs' vs)
+        outcome_with replaced b' rs' (edit_values (settings_of b') b' k (replaced_values k) rs' vs)
 
     pub replace_accepted : replace_verdict b k o (entries_of (length rs) (length vs)) ≡ Accepted → outcome (replace k o) (state b rs vs) ≡ brought (put_object k o b)
     unfolding verdict_in refusal execute edited
@@ -77,7 +77,7 @@ module _ (b : List ℕ) (rs vs : List Float) where
 
   module _ (k : ℕ) (o : List ℕ) where
     pub insert_refused : (r : Refusal) → insert_verdict b k o (entries_of (length rs) (length vs)) ≡ Refused r
-        → outcome (insert k o) (state b rs vs) ≡ result (refused r) b rs vs
+        → outcome (insert k o) (state b rs vs) ≡ outcome_with (refused r) b rs vs
     unfolding verdict_in refusal refuse
     insert_refused r e = refused_as (insert k o) (state b rs vs) r e
 
@@ -85,21 +85,21 @@ module _ (b : List ℕ) (rs vs : List Float) where
     abbrev put_in_lem : List ℕ → Outcome
     put_in_lem b' =
         let rs' = edit_records (settings_of b') b' k (inserted_records k) (rows_up record_width (first_moved k) (layout_of b).n rs) in
-        result inserted b' rs' (edit_values (settings_of b') b' k (inserted_values k) rs' (rows_up value_width (first_moved k) (layout_of b).n vs))
+        outcome_with inserted b' rs' (edit_values (settings_of b') b' k (inserted_values k) rs' (rows_up value_width (first_moved k) (layout_of b).n vs))
 
     pub insert_accepted : insert_verdict b k o (entries_of (length rs) (length vs)) ≡ Accepted → outcome (insert k o) (state b rs vs) ≡ put_in_lem (insert_object k o b)
     unfolding verdict_in refusal execute put_in
     insert_accepted e = carried_out (insert k o) (state b rs vs) e
 
   module _ (k : ℕ) where
-    pub remove_refused : (r : Refusal) → remove_verdict b k (entries_of (length rs) (length vs)) ≡ Refused r → outcome (remove k) (state b rs vs) ≡ result (refused r) b rs vs
+    pub remove_refused : (r : Refusal) → remove_verdict b k (entries_of (length rs) (length vs)) ≡ Refused r → outcome (remove k) (state b rs vs) ≡ outcome_with (refused r) b rs vs
     unfolding verdict_in refusal refuse
     remove_refused r e = refused_as (remove k) (state b rs vs) r e
 
     abbrev outcome_out : List ℕ → Outcome
     outcome_out b' =
         let rs' = edit_records (settings_of b') b' k (removed_records k) (rows_down record_width (first_moved k) (layout_of b).n rs) in
-        result removed b' rs' (edit_values (settings_of b') b' k (removed_values k) rs' (rows_down value_width (first_moved k) (layout_of b).n vs))
+        outcome_with removed b' rs' (edit_values (settings_of b') b' k (removed_values k) rs' (rows_down value_width (first_moved k) (layout_of b).n vs))
 
     pub remove_accepted : remove_verdict b k (entries_of (length rs) (length vs)) ≡ Accepted → outcome (remove k) (state b rs vs) ≡ outcome_out (remove_object k b)
     unfolding verdict_in refusal execute taken_out

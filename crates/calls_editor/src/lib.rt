@@ -1,12 +1,14 @@
 // The station's edits of a chart and its tables: open, replace, insert, remove. Nothing is assumed of the caller: each call answers the first condition of
 // its list that is met and changes nothing, or is carried out. A player's settings are the header's, or for the second player 48 bytes that come with the call
 // (open_as); an edit whose name ends in both brings the tables of both players up to date.
+#![tactic(auto)]
+
 ghost use Rattle.std.specs.Prelude.{◌≡◌, ◌+◌, ◌-◌, ◌*◌, ◌<◌, ◌≤◌, min, max, length};
 ghost use Rattle.chart_opening.specs.Header.{layout_of};
 ghost use Rattle.calls.specs.Tables.{record_width, value_width};
 ghost use Rattle.calls.specs.Conditions as ops;
 ghost use Rattle.num_tables.specs.Parts.{rows_up, rows_down};
-ghost use Rattle.calls.specs.Calls.{state, result, open_answer, open_leaves, outcome, open_records, open_values, edit_records, edit_values};
+ghost use Rattle.calls.specs.Calls.{state, outcome_with, open_answer, open_leaves, outcome, open_records, open_values, edit_records, edit_values};
 ghost use Rattle.calls.specs.Calls.{replaced_records, replaced_values, inserted_records, inserted_values, removed_records, removed_values, first_moved};
 ghost use Rattle.calls_players.specs.Second.{open_answer_as, open_leaves_as};
 ghost use Rattle.calls_players.specs.Both.{pair, both_answer, both_leaves};
@@ -16,21 +18,21 @@ use chart_opening::{Refusal, Settings, Verdict};
 
 // The later of 1 and k.
 fn from_one(k: usize) -> usize
-    ensures* { λ r. ⌜ r ≡ max 1 k ⌝ }
+    ensures { result ≡ max 1 k }
 {
     if k < 1 { 1 } else { k }
 }
 
 // The smaller of two numbers.
 fn smaller(a: usize, b: usize) -> usize
-    ensures* { λ r. ⌜ r ≡ min a b ⌝ }
+    ensures { result ≡ min a b }
 {
     if b < a { b } else { a }
 }
 
 // The place before k, 0 for the first.
 fn before(k: usize) -> usize
-    ensures* { λ r. ⌜ r ≡ k - 1 ⌝ }
+    ensures { result ≡ k - 1 }
 {
     if 0 < k { k - 1 } else { 0 }
 }
@@ -38,8 +40,8 @@ fn before(k: usize) -> usize
 // Fills entries 1 to N - 1 of an accepted chart's tables, under a player's settings.
 pub fn fill_tables(chart: &[u8], set: Settings, records: &mut [f64], values: &mut [f64])
     requires { Fits chart.now (length records.old) (length values.old) }
-    ensures* records { λ _. ⌜ records.new ≡ open_records set chart.now records.old ⌝ }
-    ensures* values { λ _. ⌜ values.new ≡ open_values set chart.now records.new values.old ⌝ }
+    ensures records { records.new ≡ open_records set chart.now records.old }
+    ensures values { values.new ≡ open_values set chart.now records.new values.old }
 {
     let lay = chart_opening::layout_of(chart);
     osu_records::fill(chart, lay, set, records);
@@ -48,11 +50,10 @@ pub fn fill_tables(chart: &[u8], set: Settings, records: &mut [f64], values: &mu
 
 // Checks a chart under the second player's settings and fills that player's tables.
 pub fn open_as(chart: &[u8], settings: &[u8], records: &mut [f64], values: &mut [f64]) -> Verdict
-    ensures* answer { λ r. ⌜ r
-        ≡ open_answer_as settings.now (state chart.now records.old values.old) ⌝ }
-    ensures* leaves { λ _. ⌜ state chart.now records.new values.new
-        ≡ open_leaves_as settings.now (state chart.now records.old values.old) ⌝ }
-    ensures* settings { λ _. ⌜ settings.now ≡ settings.now ⌝ }
+    ensures answer { result
+        ≡ open_answer_as settings.now (state chart.now records.old values.old) }
+    ensures leaves { state chart.now records.new values.new
+        ≡ open_leaves_as settings.now (state chart.now records.old values.old) }
 {
     match chart_players::check_as(
         chart,
@@ -74,9 +75,9 @@ pub fn open_as(chart: &[u8], settings: &[u8], records: &mut [f64], values: &mut 
 
 // Checks a chart and fills its tables.
 pub fn open(chart: &[u8], records: &mut [f64], values: &mut [f64]) -> Verdict
-    ensures* answer { λ r. ⌜ r ≡ open_answer (state chart.now records.old values.old) ⌝ }
-    ensures* leaves { λ _. ⌜ state chart.now records.new values.new
-        ≡ open_leaves (state chart.now records.old values.old) ⌝ }
+    ensures answer { result ≡ open_answer (state chart.now records.old values.old) }
+    ensures leaves { state chart.now records.new values.new
+        ≡ open_leaves (state chart.now records.old values.old) }
 {
     if chart.len() < chart_fields::HEADER_SIZE {
         return Verdict::Refused(Refusal::Header);
@@ -96,8 +97,8 @@ fn bring_up_to_date(
     values: &mut [f64],
 )
     requires { Fits chart.now (length records.old) (length values.old) }
-    ensures* records { λ _. ⌜ records.new ≡ edit_records set chart.now place records_end records.old ⌝ }
-    ensures* values { λ _. ⌜ values.new ≡ edit_values set chart.now place values_end records.new values.old ⌝ }
+    ensures records { records.new ≡ edit_records set chart.now place records_end records.old }
+    ensures values { values.new ≡ edit_values set chart.now place values_end records.new values.old }
 {
     let lay = chart_opening::layout_of(chart);
     let n = lay.n;
@@ -124,9 +125,9 @@ fn bring_up_to_date(
 // Makes anew what another object at a place can have changed, once the chart has it.
 fn replace_rows(chart: &[u8], set: Settings, place: usize, records: &mut [f64], values: &mut [f64])
     requires { Fits chart.now (length records.old) (length values.old) × (place < (layout_of chart.now).n) }
-    ensures* records { λ _. ⌜ records.new ≡ edit_records set chart.now place (replaced_records place) records.old ⌝ }
-    ensures* values { λ _. ⌜ values.new
-        ≡ edit_values set chart.now place (replaced_values place) records.new values.old ⌝ }
+    ensures records { records.new ≡ edit_records set chart.now place (replaced_records place) records.old }
+    ensures values { values.new
+        ≡ edit_values set chart.now place (replaced_values place) records.new values.old }
 {
     bring_up_to_date(chart, set, place, place + 3, place + 34, records, values);
 }
@@ -139,9 +140,8 @@ pub fn replace(
     records: &mut [f64],
     values: &mut [f64],
 ) -> Verdict
-    ensures* values_after { λ r. ⌜ result (replace_answer r) chart.new records.new values.new
-        ≡ outcome (ops.replace place object.now) (state chart.old records.old values.old) ⌝ }
-    ensures* object { λ _. ⌜ object.now ≡ object.now ⌝ }
+    ensures values_after { outcome_with (replace_answer result) chart.new records.new values.new
+        ≡ outcome (ops.replace place object.now) (state chart.old records.old values.old) }
 {
     match chart_replacing::replace(
         chart,
@@ -160,7 +160,7 @@ pub fn replace(
 
 // The larger of two numbers.
 fn larger(a: usize, b: usize) -> usize
-    ensures* { λ r. ⌜ r ≡ max a b ⌝ }
+    ensures { result ≡ max a b }
 {
     if a < b { b } else { a }
 }
@@ -168,7 +168,7 @@ fn larger(a: usize, b: usize) -> usize
 // Moves rows from to before to of the record table one place up, with their objects.
 fn records_up(records: &mut [f64], from: usize, to: usize)
     requires { record_width * (to + 1) ≤ length records.old }
-    ensures* { λ _. ⌜ records.new ≡ rows_up record_width from to records.old ⌝ }
+    ensures { records.new ≡ rows_up record_width from to records.old }
 {
     if from < to {
         num_tables::move_numbers_up(
@@ -183,7 +183,7 @@ fn records_up(records: &mut [f64], from: usize, to: usize)
 // Moves the rows behind from to before to of the record table one place down.
 fn records_down(records: &mut [f64], from: usize, to: usize)
     requires { (from ≤ to) × (record_width * to ≤ length records.old) }
-    ensures* { λ _. ⌜ records.new ≡ rows_down record_width from to records.old ⌝ }
+    ensures { records.new ≡ rows_down record_width from to records.old }
 {
     let next = from + 1;
     if next < to {
@@ -199,7 +199,7 @@ fn records_down(records: &mut [f64], from: usize, to: usize)
 // Moves rows from to before to of the value table one place up, with their objects.
 fn values_up(values: &mut [f64], from: usize, to: usize)
     requires { value_width * (to + 1) ≤ length values.old }
-    ensures* { λ _. ⌜ values.new ≡ rows_up value_width from to values.old ⌝ }
+    ensures { values.new ≡ rows_up value_width from to values.old }
 {
     if from < to {
         num_tables::move_numbers_up(
@@ -214,7 +214,7 @@ fn values_up(values: &mut [f64], from: usize, to: usize)
 // Moves the rows behind from to before to of the value table one place down.
 fn values_down(values: &mut [f64], from: usize, to: usize)
     requires { (from ≤ to) × (value_width * to ≤ length values.old) }
-    ensures* { λ _. ⌜ values.new ≡ rows_down value_width from to values.old ⌝ }
+    ensures { values.new ≡ rows_down value_width from to values.old }
 {
     let next = from + 1;
     if next < to {
@@ -230,10 +230,10 @@ fn values_down(values: &mut [f64], from: usize, to: usize)
 // Moves the rows of later objects up and makes anew what an object put in at a place can have changed, once the chart has it.
 fn insert_rows(chart: &[u8], set: Settings, place: usize, records: &mut [f64], values: &mut [f64])
     requires { Fits chart.now (length records.old) (length values.old) × (place < (layout_of chart.now).n) }
-    ensures* records { λ _. ⌜ records.new ≡ edit_records set chart.now place (inserted_records place)
-        (rows_up record_width (first_moved place) ((layout_of chart.now).n - 1) records.old) ⌝ }
-    ensures* values { λ _. ⌜ values.new ≡ edit_values set chart.now place (inserted_values place)
-        records.new (rows_up value_width (first_moved place) ((layout_of chart.now).n - 1) values.old) ⌝ }
+    ensures records { records.new ≡ edit_records set chart.now place (inserted_records place)
+        (rows_up record_width (first_moved place) ((layout_of chart.now).n - 1) records.old) }
+    ensures values { values.new ≡ edit_values set chart.now place (inserted_values place)
+        records.new (rows_up value_width (first_moved place) ((layout_of chart.now).n - 1) values.old) }
 {
     let n = chart_opening::layout_of(chart).n;
     let from = from_one(place);
@@ -251,9 +251,8 @@ pub fn insert(
     records: &mut [f64],
     values: &mut [f64],
 ) -> Verdict
-    ensures* values_after { λ r. ⌜ result (insert_answer r) chart.new records.new values.new
-        ≡ outcome (ops.insert place object.now) (state chart.old records.old values.old) ⌝ }
-    ensures* object { λ _. ⌜ object.now ≡ object.now ⌝ }
+    ensures values_after { outcome_with (insert_answer result) chart.new records.new values.new
+        ≡ outcome (ops.insert place object.now) (state chart.old records.old values.old) }
 {
     match chart_inserting::insert(
         chart,
@@ -274,10 +273,10 @@ pub fn insert(
 fn remove_rows(chart: &[u8], set: Settings, place: usize, records: &mut [f64], values: &mut [f64])
     requires { Fits chart.now (length records.old) (length values.old) × (place ≤ (layout_of chart.now).n)
         × (record_width * ((layout_of chart.now).n + 1) ≤ length records.old) × (value_width * ((layout_of chart.now).n + 1) ≤ length values.old) }
-    ensures* records { λ _. ⌜ records.new ≡ edit_records set chart.now place (removed_records place)
-        (rows_down record_width (first_moved place) ((layout_of chart.now).n + 1) records.old) ⌝ }
-    ensures* values { λ _. ⌜ values.new ≡ edit_values set chart.now place (removed_values place)
-        records.new (rows_down value_width (first_moved place) ((layout_of chart.now).n + 1) values.old) ⌝ }
+    ensures records { records.new ≡ edit_records set chart.now place (removed_records place)
+        (rows_down record_width (first_moved place) ((layout_of chart.now).n + 1) records.old) }
+    ensures values { values.new ≡ edit_values set chart.now place (removed_values place)
+        records.new (rows_down value_width (first_moved place) ((layout_of chart.now).n + 1) values.old) }
 {
     let n = chart_opening::layout_of(chart).n;
     let from = from_one(place);
@@ -289,8 +288,8 @@ fn remove_rows(chart: &[u8], set: Settings, place: usize, records: &mut [f64], v
 
 // Takes the object at a place out: what lies behind it moves down, and rows with their objects.
 pub fn remove(chart: &mut [u8], place: usize, records: &mut [f64], values: &mut [f64]) -> Verdict
-    ensures* { λ r. ⌜ result (remove_answer r) chart.new records.new values.new
-        ≡ outcome (ops.remove place) (state chart.old records.old values.old) ⌝ }
+    ensures { outcome_with (remove_answer result) chart.new records.new values.new
+        ≡ outcome (ops.remove place) (state chart.old records.old values.old) }
 {
     match chart_inserting::remove(chart, place, calls::entries_in(records.len(), values.len())) {
         Verdict::Refused(r) => Verdict::Refused(r),
@@ -313,13 +312,11 @@ pub fn replace_both(
     second_records: &mut [f64],
     second_values: &mut [f64],
 ) -> Verdict
-    ensures* answer { λ r. ⌜ r ≡ both_answer settings.now (ops.replace place object.now)
-        (pair chart.old records.old values.old second_records.old second_values.old) ⌝ }
-    ensures* leaves { λ _. ⌜ pair chart.new records.new values.new second_records.new second_values.new
+    ensures answer { result ≡ both_answer settings.now (ops.replace place object.now)
+        (pair chart.old records.old values.old second_records.old second_values.old) }
+    ensures leaves { pair chart.new records.new values.new second_records.new second_values.new
         ≡ both_leaves settings.now (ops.replace place object.now)
-        (pair chart.old records.old values.old second_records.old second_values.old) ⌝ }
-    ensures* settings { λ _. ⌜ settings.now ≡ settings.now ⌝ }
-    ensures* object { λ _. ⌜ object.now ≡ object.now ⌝ }
+        (pair chart.old records.old values.old second_records.old second_values.old) }
 {
     match chart_players::replace_both(
         chart,
@@ -351,13 +348,11 @@ pub fn insert_both(
     second_records: &mut [f64],
     second_values: &mut [f64],
 ) -> Verdict
-    ensures* answer { λ r. ⌜ r ≡ both_answer settings.now (ops.insert place object.now)
-        (pair chart.old records.old values.old second_records.old second_values.old) ⌝ }
-    ensures* leaves { λ _. ⌜ pair chart.new records.new values.new second_records.new second_values.new
+    ensures answer { result ≡ both_answer settings.now (ops.insert place object.now)
+        (pair chart.old records.old values.old second_records.old second_values.old) }
+    ensures leaves { pair chart.new records.new values.new second_records.new second_values.new
         ≡ both_leaves settings.now (ops.insert place object.now)
-        (pair chart.old records.old values.old second_records.old second_values.old) ⌝ }
-    ensures* settings { λ _. ⌜ settings.now ≡ settings.now ⌝ }
-    ensures* object { λ _. ⌜ object.now ≡ object.now ⌝ }
+        (pair chart.old records.old values.old second_records.old second_values.old) }
 {
     match chart_players::insert_both(
         chart,
@@ -388,12 +383,11 @@ pub fn remove_both(
     second_records: &mut [f64],
     second_values: &mut [f64],
 ) -> Verdict
-    ensures* answer { λ r. ⌜ r ≡ both_answer settings.now (ops.remove place)
-        (pair chart.old records.old values.old second_records.old second_values.old) ⌝ }
-    ensures* leaves { λ _. ⌜ pair chart.new records.new values.new second_records.new second_values.new
+    ensures answer { result ≡ both_answer settings.now (ops.remove place)
+        (pair chart.old records.old values.old second_records.old second_values.old) }
+    ensures leaves { pair chart.new records.new values.new second_records.new second_values.new
         ≡ both_leaves settings.now (ops.remove place)
-        (pair chart.old records.old values.old second_records.old second_values.old) ⌝ }
-    ensures* settings { λ _. ⌜ settings.now ≡ settings.now ⌝ }
+        (pair chart.old records.old values.old second_records.old second_values.old) }
 {
     match chart_players::remove_both(
         chart,

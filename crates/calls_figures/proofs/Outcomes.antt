@@ -29,7 +29,7 @@ use Rattle.skills_stars.specs.declared.Asked.{Asked}
 use Rattle.calls.specs.Tables.{value_width, totals_width, value_entries}
 use Rattle.calls.specs.Afresh.{Figure, Amount, totals_to, playing, ratings, count, reached_of, figure_of, figure_from}
 use Rattle.calls.specs.Conditions.{Scratch, Lengths, lengths, scratch_short, figure, sum_conditions, sum_verdict, asked_conditions, figure_conditions, refusal}
-use Rattle.calls.specs.Calls.{Outcome, refused, figure_is, state, result, refuse, execute, verdict_in, outcome, cleared, scratch_after, amount_list, list_after}
+use Rattle.calls.specs.Calls.{Outcome, refused, figure_is, state, outcome_with, refuse, execute, verdict_in, outcome, cleared, scratch_after, amount_list, list_after}
 use Rattle.calls.proofs.Refusals.{sum_accepted, sum_refused, sum_passed, long}
 use Rattle.calls.proofs.Playing.{put_totals_lem}
 use Rattle.calls_players.specs.Second.{seen, verdict_as, outcome_as, scratch_after_as}
@@ -139,7 +139,7 @@ module _ (f : Figure) (t b : List ℕ) (vs : List Float) (x : Scratch) where
   met_as_asked v e a = then_asked ∙ (then_passed (asked_conditions f (count b)) e ∙ a)
 
   abbrev Refuses : Refusal → Type 0
-  Refuses r = (outcome_as t (figure f (lengths x)) (state b [] vs) ≡ result (refused r) b [] vs) × (scratch_after_as t f (state b [] vs) x ≡ x)
+  Refuses r = (outcome_as t (figure f (lengths x)) (state b [] vs) ≡ outcome_with (refused r) b [] vs) × (scratch_after_as t f (state b [] vs) x ≡ x)
 
   by_refusal : (r : Refusal) → verdict_as t (figure f (lengths x)) (state b [] vs) ≡ Refused r → Refuses r
   unfolding refuse
@@ -158,19 +158,19 @@ module _ (f : Figure) (t b : List ℕ) (vs : List Float) (x : Scratch) where
       ap (λ (s : Settings). figure_from f s (under t b) vs) (settings_are t b p.header p.size) ∙ figure_under t b (settings_at t 0) f vs
 
   pub worked_out : tried ≡ Accepted → first_of (asked_conditions f (count b)) ≡ Accepted
-      → (outcome_as t (figure f (lengths x)) (state b [] vs) ≡ result (figure_is (figure_from f (settings_at t 0) b vs)) b [] vs)
+      → (outcome_as t (figure f (lengths x)) (state b [] vs) ≡ outcome_with (figure_is (figure_from f (settings_at t 0) b vs)) b [] vs)
       × (scratch_after_as t f (state b [] vs) x ≡ cleared x)
   unfolding execute seen
   worked_out e a =
       let v = met_as_asked Accepted e a in
-      (as_carried t (figure f (lengths x)) (state b [] vs) v ∙ ap (λ (y : Amount). result (figure_is y) b [] vs) (amount e), scratch_cleared_as t f (state b [] vs) x v)
+      (as_carried t (figure f (lengths x)) (state b [] vs) v ∙ ap (λ (y : Amount). outcome_with (figure_is y) b [] vs) (amount e), scratch_cleared_as t f (state b [] vs) x v)
 
 -- the list of the totals while playing
 module _ (t b : List ℕ) (vs : List Float) (entries : ℕ) (list : List Float) where
   abbrev row_at : ℕ → List Float
   row_at m = total_row (reached_of m (settings_at t 0) b (row value_width vs))
 
-  pub filled : (o : Outcome) → o ≡ result (figure_is (figure_from (playing entries) (settings_at t 0) b vs)) b [] vs
+  pub filled : (o : Outcome) → o ≡ outcome_with (figure_is (figure_from (playing entries) (settings_at t 0) b vs)) b [] vs
       → list_after o.answer list ≡ fill totals_width row_at 0 (count b + 1) list
   unfolding figure_of list_after amount_list
   filled o e =
@@ -181,7 +181,7 @@ module _ (t b : List ℕ) (vs : List Float) (entries : ℕ) (list : List Float) 
 module _ (f : Figure) (b : List ℕ) (vs : List Float) (x : Scratch) where
   -- a chart without a header
   pub short_chart : length b < header_size
-      → (outcome (figure f (lengths x)) (state b [] vs) ≡ result (refused Header) b [] vs) × (scratch_after f (state b [] vs) x ≡ x)
+      → (outcome (figure f (lengths x)) (state b [] vs) ≡ outcome_with (refused Header) b [] vs) × (scratch_after f (state b [] vs) x ≡ x)
   unfolding refuse
   short_chart h = (outcome_short (figure f (lengths x)) (state b [] vs) h, scratch_short_lem f (state b [] vs) x h)
 

@@ -1,6 +1,8 @@
 // The station's figures of a chart: what is worked out from the values of all places, with scratch. Nothing is assumed of the caller: each call answers the
 // first condition of its list that is met and changes nothing, or is carried out and leaves all scratch 0. Times come from the chart. A figure whose name ends
 // in as is the second player's, with that player's settings; the first player's settings are the header's.
+#![tactic(auto)]
+
 ghost use Rattle.std.specs.Prelude.{◌≡◌, [], ◌+◌, ◌*◌, ◌/◌, ◌≤◌, length};
 ghost use Rattle.num_tables.specs.Parts.{fill};
 ghost use Rattle.chart_fields.specs.Limits.{most_objects};
@@ -14,7 +16,7 @@ ghost use Rattle.calls.specs.Tables.{value_entries, totals_width};
 ghost use Rattle.calls.specs.Afresh as kinds;
 ghost use Rattle.calls.specs.Conditions as ops;
 ghost use Rattle.calls.specs.Conditions.{lengths, scratch_short, sum_verdict};
-ghost use Rattle.calls.specs.Calls.{state, result, verdict_in, outcome, cleared, scratch_after, list_after};
+ghost use Rattle.calls.specs.Calls.{state, outcome_with, verdict_in, outcome, cleared, scratch_after, list_after};
 ghost use Rattle.calls_players.specs.Second.{verdict_as, outcome_as, scratch_after_as};
 ghost use Rattle.calls_figures.specs.Answers.{Sums, Counted, scratch_of, totals_answer, counts_answer, ratings_answer};
 
@@ -24,21 +26,21 @@ use skills_counts::ObjectCounts;
 use skills_stars::{Asked, Ratings};
 
 // The four totals, or why they are not worked out.
-#[derive(Drop)]
+#[derive(Clone, Copy)]
 pub enum TotalsAnswer {
     Totals(Skills),
     Refused(Refusal),
 }
 
 // The seven counts, or why they are not worked out.
-#[derive(Drop)]
+#[derive(Clone, Copy)]
 pub enum CountsAnswer {
     Counts(ObjectCounts),
     Refused(Refusal),
 }
 
 // The ratings and the stars, or why they are not worked out.
-#[derive(Drop)]
+#[derive(Clone, Copy)]
 pub enum RatingsAnswer {
     Ratings(Ratings),
     Refused(Refusal),
@@ -46,8 +48,8 @@ pub enum RatingsAnswer {
 
 // Conditions 1 to 7 for the second player, over a value table of as many entries, where scratch is short or not.
 fn check_sums(chart: &[u8], settings: &[u8], entries: usize, short: bool) -> Verdict
-    ensures* { λ r. ⌜ r ≡ second_verdict settings.now chart.now
-        (sum_verdict (under settings.now chart.now) entries short) ⌝ }
+    ensures { result ≡ second_verdict settings.now chart.now
+        (sum_verdict (under settings.now chart.now) entries short) }
 {
     match chart_players::check_as(chart, settings, entries) {
         Verdict::Refused(r) => Verdict::Refused(r),
@@ -71,9 +73,9 @@ fn check_lent(
     speed: usize,
     flashlight: usize,
 ) -> Verdict
-    ensures* { λ r. ⌜ r ≡ second_verdict settings.now chart.now
+    ensures { result ≡ second_verdict settings.now chart.now
         (sum_verdict (under settings.now chart.now) (value_entries values)
-        (scratch_short (record { aim = aim; aim_no_sliders = aim_no_sliders; speed = speed; flashlight = flashlight }))) ⌝ }
+        (scratch_short (record { aim = aim; aim_no_sliders = aim_no_sliders; speed = speed; flashlight = flashlight }))) }
 {
     let short = calls::scratch_short(aim, aim_no_sliders, speed, flashlight);
     check_sums(chart, settings, values / calls::VALUE_WIDTH, short)
@@ -91,10 +93,10 @@ fn totals_of(
 ) -> Skills
     requires { Sums chart.now (length values.now)
         (lengths (scratch_of aim.old aim_no_sliders.old speed.old flashlight.old)) }
-    ensures* result { λ r. ⌜ r
-        ≡ totals_of chart.now (layout_of chart.now) clock values.now ⌝ }
-    ensures* scratch { λ _. ⌜ scratch_of aim.new aim_no_sliders.new speed.new flashlight.new
-        ≡ cleared (scratch_of aim.old aim_no_sliders.old speed.old flashlight.old) ⌝ }
+    ensures result { result
+        ≡ totals_of chart.now (layout_of chart.now) clock values.now }
+    ensures scratch { scratch_of aim.new aim_no_sliders.new speed.new flashlight.new
+        ≡ cleared (scratch_of aim.old aim_no_sliders.old speed.old flashlight.old) }
 {
     let lay = chart_opening::layout_of(chart);
     skills::totals(
@@ -119,14 +121,13 @@ pub fn totals_as(
     speed: &mut [f64],
     flashlight: &mut [f64],
 ) -> TotalsAnswer
-    ensures* answer { λ r. ⌜ result (totals_answer r) chart.now [] values.now
+    ensures answer { outcome_with (totals_answer result) chart.now [] values.now
         ≡ outcome_as settings.now (ops.figure kinds.totals
         (lengths (scratch_of aim.old aim_no_sliders.old speed.old flashlight.old)))
-        (state chart.now [] values.now) ⌝ }
-    ensures* scratch { λ _. ⌜ scratch_of aim.new aim_no_sliders.new speed.new flashlight.new
+        (state chart.now [] values.now) }
+    ensures scratch { scratch_of aim.new aim_no_sliders.new speed.new flashlight.new
         ≡ scratch_after_as settings.now kinds.totals (state chart.now [] values.now)
-        (scratch_of aim.old aim_no_sliders.old speed.old flashlight.old) ⌝ }
-    ensures* settings { λ _. ⌜ settings.now ≡ settings.now ⌝ }
+        (scratch_of aim.old aim_no_sliders.old speed.old flashlight.old) }
 {
     match check_lent(
         chart,
@@ -155,13 +156,13 @@ pub fn totals(
     speed: &mut [f64],
     flashlight: &mut [f64],
 ) -> TotalsAnswer
-    ensures* answer { λ r. ⌜ result (totals_answer r) chart.now [] values.now
+    ensures answer { outcome_with (totals_answer result) chart.now [] values.now
         ≡ outcome (ops.figure kinds.totals
         (lengths (scratch_of aim.old aim_no_sliders.old speed.old flashlight.old)))
-        (state chart.now [] values.now) ⌝ }
-    ensures* scratch { λ _. ⌜ scratch_of aim.new aim_no_sliders.new speed.new flashlight.new
+        (state chart.now [] values.now) }
+    ensures scratch { scratch_of aim.new aim_no_sliders.new speed.new flashlight.new
         ≡ scratch_after kinds.totals (state chart.now [] values.now)
-        (scratch_of aim.old aim_no_sliders.old speed.old flashlight.old) ⌝ }
+        (scratch_of aim.old aim_no_sliders.old speed.old flashlight.old) }
 {
     if chart.len() < chart_fields::HEADER_SIZE {
         return TotalsAnswer::Refused(Refusal::Header);
@@ -180,7 +181,7 @@ pub fn totals(
 // The number of objects.
 fn count_of(chart: &[u8]) -> usize
     requires { Counted chart.now }
-    ensures* { λ r. ⌜ (r ≡ (layout_of chart.now).n) × (r ≤ most_objects) ⌝ }
+    ensures { (result ≡ (layout_of chart.now).n) × (result ≤ most_objects) }
 {
     chart_opening::layout_of(chart).n
 }
@@ -197,10 +198,10 @@ fn counts_of(
 ) -> ObjectCounts
     requires { Sums chart.now (length values.now)
         (lengths (scratch_of aim.old aim_no_sliders.old speed.old flashlight.old)) }
-    ensures* result { λ r. ⌜ r
-        ≡ counts_of chart.now (layout_of chart.now) clock values.now ⌝ }
-    ensures* scratch { λ _. ⌜ scratch_of aim.new aim_no_sliders.new speed.new flashlight.new
-        ≡ cleared (scratch_of aim.old aim_no_sliders.old speed.old flashlight.old) ⌝ }
+    ensures result { result
+        ≡ counts_of chart.now (layout_of chart.now) clock values.now }
+    ensures scratch { scratch_of aim.new aim_no_sliders.new speed.new flashlight.new
+        ≡ cleared (scratch_of aim.old aim_no_sliders.old speed.old flashlight.old) }
 {
     let lay = chart_opening::layout_of(chart);
     skills_counts::counts(
@@ -225,14 +226,13 @@ pub fn counts_as(
     speed: &mut [f64],
     flashlight: &mut [f64],
 ) -> CountsAnswer
-    ensures* answer { λ r. ⌜ result (counts_answer r) chart.now [] values.now
+    ensures answer { outcome_with (counts_answer result) chart.now [] values.now
         ≡ outcome_as settings.now (ops.figure kinds.counts
         (lengths (scratch_of aim.old aim_no_sliders.old speed.old flashlight.old)))
-        (state chart.now [] values.now) ⌝ }
-    ensures* scratch { λ _. ⌜ scratch_of aim.new aim_no_sliders.new speed.new flashlight.new
+        (state chart.now [] values.now) }
+    ensures scratch { scratch_of aim.new aim_no_sliders.new speed.new flashlight.new
         ≡ scratch_after_as settings.now kinds.counts (state chart.now [] values.now)
-        (scratch_of aim.old aim_no_sliders.old speed.old flashlight.old) ⌝ }
-    ensures* settings { λ _. ⌜ settings.now ≡ settings.now ⌝ }
+        (scratch_of aim.old aim_no_sliders.old speed.old flashlight.old) }
 {
     match check_lent(
         chart,
@@ -261,13 +261,13 @@ pub fn counts(
     speed: &mut [f64],
     flashlight: &mut [f64],
 ) -> CountsAnswer
-    ensures* answer { λ r. ⌜ result (counts_answer r) chart.now [] values.now
+    ensures answer { outcome_with (counts_answer result) chart.now [] values.now
         ≡ outcome (ops.figure kinds.counts
         (lengths (scratch_of aim.old aim_no_sliders.old speed.old flashlight.old)))
-        (state chart.now [] values.now) ⌝ }
-    ensures* scratch { λ _. ⌜ scratch_of aim.new aim_no_sliders.new speed.new flashlight.new
+        (state chart.now [] values.now) }
+    ensures scratch { scratch_of aim.new aim_no_sliders.new speed.new flashlight.new
         ≡ scratch_after kinds.counts (state chart.now [] values.now)
-        (scratch_of aim.old aim_no_sliders.old speed.old flashlight.old) ⌝ }
+        (scratch_of aim.old aim_no_sliders.old speed.old flashlight.old) }
 {
     if chart.len() < chart_fields::HEADER_SIZE {
         return CountsAnswer::Refused(Refusal::Header);
@@ -297,10 +297,10 @@ fn reached_of(
     requires sums { Sums chart.now (length values.now)
         (lengths (scratch_of aim.old aim_no_sliders.old speed.old flashlight.old)) }
     requires m_bound { m ≤ (layout_of chart.now).n }
-    ensures* result { λ r. ⌜ r
-        ≡ totals_after chart.now (layout_of chart.now) clock values.now m ⌝ }
-    ensures* scratch { λ _. ⌜ scratch_of aim.new aim_no_sliders.new speed.new flashlight.new
-        ≡ cleared (scratch_of aim.old aim_no_sliders.old speed.old flashlight.old) ⌝ }
+    ensures result { result
+        ≡ totals_after chart.now (layout_of chart.now) clock values.now m }
+    ensures scratch { scratch_of aim.new aim_no_sliders.new speed.new flashlight.new
+        ≡ cleared (scratch_of aim.old aim_no_sliders.old speed.old flashlight.old) }
 {
     let lay = chart_opening::layout_of(chart);
     skills_playing::totals_to(
@@ -327,14 +327,13 @@ pub fn totals_to_as(
     speed: &mut [f64],
     flashlight: &mut [f64],
 ) -> TotalsAnswer
-    ensures* answer { λ r. ⌜ result (totals_answer r) chart.now [] values.now
+    ensures answer { outcome_with (totals_answer result) chart.now [] values.now
         ≡ outcome_as settings.now (ops.figure (kinds.totals_to m)
         (lengths (scratch_of aim.old aim_no_sliders.old speed.old flashlight.old)))
-        (state chart.now [] values.now) ⌝ }
-    ensures* scratch { λ _. ⌜ scratch_of aim.new aim_no_sliders.new speed.new flashlight.new
+        (state chart.now [] values.now) }
+    ensures scratch { scratch_of aim.new aim_no_sliders.new speed.new flashlight.new
         ≡ scratch_after_as settings.now (kinds.totals_to m) (state chart.now [] values.now)
-        (scratch_of aim.old aim_no_sliders.old speed.old flashlight.old) ⌝ }
-    ensures* settings { λ _. ⌜ settings.now ≡ settings.now ⌝ }
+        (scratch_of aim.old aim_no_sliders.old speed.old flashlight.old) }
 {
     match check_lent(
         chart,
@@ -376,13 +375,13 @@ pub fn totals_to(
     speed: &mut [f64],
     flashlight: &mut [f64],
 ) -> TotalsAnswer
-    ensures* answer { λ r. ⌜ result (totals_answer r) chart.now [] values.now
+    ensures answer { outcome_with (totals_answer result) chart.now [] values.now
         ≡ outcome (ops.figure (kinds.totals_to m)
         (lengths (scratch_of aim.old aim_no_sliders.old speed.old flashlight.old)))
-        (state chart.now [] values.now) ⌝ }
-    ensures* scratch { λ _. ⌜ scratch_of aim.new aim_no_sliders.new speed.new flashlight.new
+        (state chart.now [] values.now) }
+    ensures scratch { scratch_of aim.new aim_no_sliders.new speed.new flashlight.new
         ≡ scratch_after (kinds.totals_to m) (state chart.now [] values.now)
-        (scratch_of aim.old aim_no_sliders.old speed.old flashlight.old) ⌝ }
+        (scratch_of aim.old aim_no_sliders.old speed.old flashlight.old) }
 {
     if chart.len() < chart_fields::HEADER_SIZE {
         return TotalsAnswer::Refused(Refusal::Header);
@@ -413,11 +412,11 @@ fn fill_list(
     requires sums { Sums chart.now (length values.now)
         (lengths (scratch_of aim.old aim_no_sliders.old speed.old flashlight.old)) }
     requires chart_in_bounds { totals_width * ((layout_of chart.now).n + 1) ≤ length list.old }
-    ensures* list { λ _. ⌜ list.new ≡ fill totals_width
+    ensures list { list.new ≡ fill totals_width
         (row_after chart.now (layout_of chart.now) clock values.now)
-        0 ((layout_of chart.now).n + 1) list.old ⌝ }
-    ensures* scratch { λ _. ⌜ scratch_of aim.new aim_no_sliders.new speed.new flashlight.new
-        ≡ cleared (scratch_of aim.old aim_no_sliders.old speed.old flashlight.old) ⌝ }
+        0 ((layout_of chart.now).n + 1) list.old }
+    ensures scratch { scratch_of aim.new aim_no_sliders.new speed.new flashlight.new
+        ≡ cleared (scratch_of aim.old aim_no_sliders.old speed.old flashlight.old) }
 {
     let lay = chart_opening::layout_of(chart);
     skills_playing::totals_while_playing(
@@ -444,18 +443,16 @@ pub fn totals_while_playing_as(
     speed: &mut [f64],
     flashlight: &mut [f64],
 ) -> Verdict
-    ensures* answer { λ r. ⌜ r ≡ verdict_as settings.now (ops.figure (kinds.playing (length list.old / totals_width))
+    ensures answer { result ≡ verdict_as settings.now (ops.figure (kinds.playing (length list.old / totals_width))
         (lengths (scratch_of aim.old aim_no_sliders.old speed.old flashlight.old)))
-        (state chart.now [] values.now) ⌝ }
-    ensures* list { λ _. ⌜ list.new ≡ list_after (outcome_as settings.now (ops.figure (kinds.playing (length list.old / totals_width))
+        (state chart.now [] values.now) }
+    ensures list { list.new ≡ list_after (outcome_as settings.now (ops.figure (kinds.playing (length list.old / totals_width))
         (lengths (scratch_of aim.old aim_no_sliders.old speed.old flashlight.old)))
-        (state chart.now [] values.now)).answer list.old ⌝ }
-    ensures* leaves { λ _. ⌜ state chart.now [] values.now ≡ state chart.now [] values.now ⌝ }
-    ensures* scratch { λ _. ⌜ scratch_of aim.new aim_no_sliders.new speed.new flashlight.new
+        (state chart.now [] values.now)).answer list.old }
+    ensures scratch { scratch_of aim.new aim_no_sliders.new speed.new flashlight.new
         ≡ scratch_after_as settings.now (kinds.playing (length list.old / totals_width))
         (state chart.now [] values.now)
-        (scratch_of aim.old aim_no_sliders.old speed.old flashlight.old) ⌝ }
-    ensures* settings { λ _. ⌜ settings.now ≡ settings.now ⌝ }
+        (scratch_of aim.old aim_no_sliders.old speed.old flashlight.old) }
 {
     match check_lent(
         chart,
@@ -497,16 +494,15 @@ pub fn totals_while_playing(
     speed: &mut [f64],
     flashlight: &mut [f64],
 ) -> Verdict
-    ensures* answer { λ r. ⌜ r ≡ verdict_in (ops.figure (kinds.playing (length list.old / totals_width))
+    ensures answer { result ≡ verdict_in (ops.figure (kinds.playing (length list.old / totals_width))
         (lengths (scratch_of aim.old aim_no_sliders.old speed.old flashlight.old)))
-        (state chart.now [] values.now) ⌝ }
-    ensures* list { λ _. ⌜ list.new ≡ list_after (outcome (ops.figure (kinds.playing (length list.old / totals_width))
+        (state chart.now [] values.now) }
+    ensures list { list.new ≡ list_after (outcome (ops.figure (kinds.playing (length list.old / totals_width))
         (lengths (scratch_of aim.old aim_no_sliders.old speed.old flashlight.old)))
-        (state chart.now [] values.now)).answer list.old ⌝ }
-    ensures* leaves { λ _. ⌜ state chart.now [] values.now ≡ state chart.now [] values.now ⌝ }
-    ensures* scratch { λ _. ⌜ scratch_of aim.new aim_no_sliders.new speed.new flashlight.new
+        (state chart.now [] values.now)).answer list.old }
+    ensures scratch { scratch_of aim.new aim_no_sliders.new speed.new flashlight.new
         ≡ scratch_after (kinds.playing (length list.old / totals_width)) (state chart.now [] values.now)
-        (scratch_of aim.old aim_no_sliders.old speed.old flashlight.old) ⌝ }
+        (scratch_of aim.old aim_no_sliders.old speed.old flashlight.old) }
 {
     if chart.len() < chart_fields::HEADER_SIZE {
         return Verdict::Refused(Refusal::Header);
@@ -526,7 +522,7 @@ pub fn totals_while_playing(
 // The ratings and the stars of a chart's totals.
 fn rate(chart: &[u8], totals: Skills, asked: Asked) -> Ratings
     requires { Counted chart.now }
-    ensures* { λ r. ⌜ r ≡ ratings_of totals (layout_of chart.now).n asked ⌝ }
+    ensures { result ≡ ratings_of totals (layout_of chart.now).n asked }
 {
     skills_stars::eval(totals, count_of(chart) as u32, asked)
 }
@@ -542,14 +538,13 @@ pub fn ratings_as(
     speed: &mut [f64],
     flashlight: &mut [f64],
 ) -> RatingsAnswer
-    ensures* answer { λ r. ⌜ result (ratings_answer r) chart.now [] values.now
+    ensures answer { outcome_with (ratings_answer result) chart.now [] values.now
         ≡ outcome_as settings.now (ops.figure (kinds.ratings asked)
         (lengths (scratch_of aim.old aim_no_sliders.old speed.old flashlight.old)))
-        (state chart.now [] values.now) ⌝ }
-    ensures* scratch { λ _. ⌜ scratch_of aim.new aim_no_sliders.new speed.new flashlight.new
+        (state chart.now [] values.now) }
+    ensures scratch { scratch_of aim.new aim_no_sliders.new speed.new flashlight.new
         ≡ scratch_after_as settings.now (kinds.ratings asked) (state chart.now [] values.now)
-        (scratch_of aim.old aim_no_sliders.old speed.old flashlight.old) ⌝ }
-    ensures* settings { λ _. ⌜ settings.now ≡ settings.now ⌝ }
+        (scratch_of aim.old aim_no_sliders.old speed.old flashlight.old) }
 {
     match check_lent(
         chart,
@@ -582,13 +577,13 @@ pub fn ratings(
     speed: &mut [f64],
     flashlight: &mut [f64],
 ) -> RatingsAnswer
-    ensures* answer { λ r. ⌜ result (ratings_answer r) chart.now [] values.now
+    ensures answer { outcome_with (ratings_answer result) chart.now [] values.now
         ≡ outcome (ops.figure (kinds.ratings asked)
         (lengths (scratch_of aim.old aim_no_sliders.old speed.old flashlight.old)))
-        (state chart.now [] values.now) ⌝ }
-    ensures* scratch { λ _. ⌜ scratch_of aim.new aim_no_sliders.new speed.new flashlight.new
+        (state chart.now [] values.now) }
+    ensures scratch { scratch_of aim.new aim_no_sliders.new speed.new flashlight.new
         ≡ scratch_after (kinds.ratings asked) (state chart.now [] values.now)
-        (scratch_of aim.old aim_no_sliders.old speed.old flashlight.old) ⌝ }
+        (scratch_of aim.old aim_no_sliders.old speed.old flashlight.old) }
 {
     if chart.len() < chart_fields::HEADER_SIZE {
         return RatingsAnswer::Refused(Refusal::Header);

@@ -15,7 +15,7 @@ use Rattle.chart_opening.specs.declared.Verdict.TheVariants.{Accepted, Refused}
 use Rattle.calls.specs.Tables.{value_width, record_entries, value_entries}
 use Rattle.calls.specs.Afresh.{Detail, detail_from}
 use Rattle.calls.specs.Conditions.{read_record, read_values, read_detail, read_verdict, refusal}
-use Rattle.calls.specs.Calls.{refused, record_is, values_are, detail_is, state, result, refuse, execute, verdict_in, outcome}
+use Rattle.calls.specs.Calls.{refused, record_is, values_are, detail_is, state, outcome_with, refuse, execute, verdict_in, outcome}
 use Rattle.calls.proofs.Alone.{carried_out, refused_as}
 use Rattle.calls.proofs.Refusals.{accepted_read}
 use Rattle.calls_readings.specs.Answers.{InTable}
@@ -25,28 +25,28 @@ unfolding header_ok
 frame_right b h = (both _ _ h).0
 
 module _ (b : List ℕ) (t : List Float) (k : ℕ) where
-  pub record_refused : (r : Refusal) → read_verdict b (record_entries (length t)) k ≡ Refused r → outcome (read_record k) (state b t []) ≡ result (refused r) b t []
+  pub record_refused : (r : Refusal) → read_verdict b (record_entries (length t)) k ≡ Refused r → outcome (read_record k) (state b t []) ≡ outcome_with (refused r) b t []
   unfolding verdict_in refusal refuse
   record_refused r e = refused_as (read_record k) (state b t []) r e
 
-  pub record_read : read_verdict b (record_entries (length t)) k ≡ Accepted → outcome (read_record k) (state b t []) ≡ result (record_is (record_at t k)) b t []
+  pub record_read : read_verdict b (record_entries (length t)) k ≡ Accepted → outcome (read_record k) (state b t []) ≡ outcome_with (record_is (record_at t k)) b t []
   unfolding verdict_in refusal execute
   record_read e = carried_out (read_record k) (state b t []) e
 
-  pub values_refused : (r : Refusal) → read_verdict b (value_entries (length t)) k ≡ Refused r → outcome (read_values k) (state b [] t) ≡ result (refused r) b [] t
+  pub values_refused : (r : Refusal) → read_verdict b (value_entries (length t)) k ≡ Refused r → outcome (read_values k) (state b [] t) ≡ outcome_with (refused r) b [] t
   unfolding verdict_in refusal refuse
   values_refused r e = refused_as (read_values k) (state b [] t) r e
 
-  pub values_read : read_verdict b (value_entries (length t)) k ≡ Accepted → outcome (read_values k) (state b [] t) ≡ result (values_are (row value_width t k)) b [] t
+  pub values_read : read_verdict b (value_entries (length t)) k ≡ Accepted → outcome (read_values k) (state b [] t) ≡ outcome_with (values_are (row value_width t k)) b [] t
   unfolding verdict_in refusal execute
   values_read e = carried_out (read_values k) (state b [] t) e
 
-  pub detail_refused : (d : Detail) (r : Refusal) → read_verdict b (record_entries (length t)) k ≡ Refused r → outcome (read_detail d k) (state b t []) ≡ result (refused r) b t []
+  pub detail_refused : (d : Detail) (r : Refusal) → read_verdict b (record_entries (length t)) k ≡ Refused r → outcome (read_detail d k) (state b t []) ≡ outcome_with (refused r) b t []
   unfolding verdict_in refusal refuse
   detail_refused d r e = refused_as (read_detail d k) (state b t []) r e
 
   pub detail_read : (d : Detail) → read_verdict b (record_entries (length t)) k ≡ Accepted
-      → outcome (read_detail d k) (state b t []) ≡ result (detail_is (detail_from d (settings_of b) b t k)) b t []
+      → outcome (read_detail d k) (state b t []) ≡ outcome_with (detail_is (detail_from d (settings_of b) b t k)) b t []
   unfolding verdict_in refusal execute
   detail_read d e = carried_out (read_detail d k) (state b t []) e
 

@@ -1,6 +1,8 @@
 // The station's readings of a place: its record, its values, and what is worked out from the records there. Nothing is assumed of the caller: each reading
 // answers the first of conditions 1, 7 and 8 that is met, and writes nothing. A reading whose name ends in as is the second player's, with that player's
 // settings, of which another length is 2 right after 1; the first player's settings are the header's.
+#![tactic(auto)]
+
 ghost use Rattle.std.specs.Prelude.{◌≡◌, [], ◌/◌, ◌≤◌, ◌<◌, length};
 ghost use Rattle.chart_fields.specs.Limits.{most_objects};
 ghost use Rattle.chart_opening.specs.Header.{settings_of};
@@ -11,7 +13,7 @@ ghost use Rattle.calls.specs.Afresh as details;
 ghost use Rattle.calls.specs.Afresh.{detail_from};
 ghost use Rattle.calls.specs.Conditions as ops;
 ghost use Rattle.calls.specs.Conditions.{row_conditions, read_verdict};
-ghost use Rattle.calls.specs.Calls.{state, result, outcome};
+ghost use Rattle.calls.specs.Calls.{state, outcome_with, outcome};
 ghost use Rattle.calls_players.specs.Second.{outcome_as};
 ghost use Rattle.calls_readings.specs.Answers.{InTable, record_answer, values_answer, aim_finding, aim_answer, rhythm_finding, rhythm_answer};
 
@@ -22,21 +24,21 @@ use eval_values::Values;
 use osu_difficulty_object::OsuDifficultyObject;
 
 // A record of the table, or why it is not read.
-#[derive(Drop)]
+#[derive(Clone, Copy)]
 pub enum RecordAnswer {
     Record(OsuDifficultyObject),
     Refused(Refusal),
 }
 
 // The five values of a place, or why they are not read.
-#[derive(Drop)]
+#[derive(Clone, Copy)]
 pub enum ValuesAnswer {
     Values(Values),
     Refused(Refusal),
 }
 
 // Aim's value at a place and what it is made of, and both without sliders.
-#[derive(Drop)]
+#[derive(Clone, Copy)]
 pub struct AimDetail {
     pub value: f64,
     pub parts: AimParts,
@@ -45,14 +47,14 @@ pub struct AimDetail {
 }
 
 // Aim in its parts, or why it is not read.
-#[derive(Drop)]
+#[derive(Clone, Copy)]
 pub enum AimAnswer {
     Aim(AimDetail),
     Refused(Refusal),
 }
 
 // The rhythm value of a place with its comparisons, or why it is not read.
-#[derive(Drop)]
+#[derive(Clone, Copy)]
 pub enum RhythmAnswer {
     Rhythm(Counted),
     Refused(Refusal),
@@ -61,7 +63,7 @@ pub enum RhythmAnswer {
 // Conditions 7 and 8 of a reading, for a chart of n objects and a table of as many numbers, so many an entry.
 fn check_place(n: usize, numbers: usize, width: usize, place: usize) -> Verdict
     requires { (n ≤ most_objects) × (0 < width) × (width ≤ record_width) }
-    ensures* { λ r. ⌜ r ≡ first_of (row_conditions n (numbers / width) place) ⌝ }
+    ensures { result ≡ first_of (row_conditions n (numbers / width) place) }
 {
     if numbers < width * n {
         return Verdict::Refused(Refusal::Table);
@@ -75,7 +77,7 @@ fn check_place(n: usize, numbers: usize, width: usize, place: usize) -> Verdict
 // Conditions 1, 7 and 8 of a reading.
 fn check_reading(chart: &[u8], numbers: usize, width: usize, place: usize) -> Verdict
     requires { (0 < width) × (width ≤ record_width) }
-    ensures* { λ r. ⌜ r ≡ read_verdict chart.now (numbers / width) place ⌝ }
+    ensures { result ≡ read_verdict chart.now (numbers / width) place }
 {
     if !chart_opening::header_ok(chart) {
         return Verdict::Refused(Refusal::Header);
@@ -92,8 +94,8 @@ fn check_reading_as(
     place: usize,
 ) -> Verdict
     requires { (0 < width) × (width ≤ record_width) }
-    ensures* { λ r. ⌜ r ≡ second_verdict settings.now chart.now
-        (read_verdict (under settings.now chart.now) (numbers / width) place) ⌝ }
+    ensures { result ≡ second_verdict settings.now chart.now
+        (read_verdict (under settings.now chart.now) (numbers / width) place) }
 {
     if !chart_players::header_ok_as(chart, settings) {
         return Verdict::Refused(Refusal::Header);
@@ -106,8 +108,8 @@ fn check_reading_as(
 
 // The record of a place, as the table has it.
 pub fn read_record(chart: &[u8], records: &[f64], place: usize) -> RecordAnswer
-    ensures* { λ r. ⌜ result (record_answer r) chart.now records.now []
-        ≡ outcome (ops.read_record place) (state chart.now records.now []) ⌝ }
+    ensures { outcome_with (record_answer result) chart.now records.now []
+        ≡ outcome (ops.read_record place) (state chart.now records.now []) }
 {
     match check_reading(chart, records.len(), calls::RECORD_WIDTH, place) {
         Verdict::Refused(r) => RecordAnswer::Refused(r),
@@ -117,9 +119,8 @@ pub fn read_record(chart: &[u8], records: &[f64], place: usize) -> RecordAnswer
 
 // The record of a place, as the table has it, for the second player.
 pub fn read_record_as(chart: &[u8], settings: &[u8], records: &[f64], place: usize) -> RecordAnswer
-    ensures* records_value { λ r. ⌜ result (record_answer r) chart.now records.now []
-        ≡ outcome_as settings.now (ops.read_record place) (state chart.now records.now []) ⌝ }
-    ensures* settings { λ _. ⌜ settings.now ≡ settings.now ⌝ }
+    ensures records_value { outcome_with (record_answer result) chart.now records.now []
+        ≡ outcome_as settings.now (ops.read_record place) (state chart.now records.now []) }
 {
     match check_reading_as(chart, settings, records.len(), calls::RECORD_WIDTH, place) {
         Verdict::Refused(r) => RecordAnswer::Refused(r),
@@ -129,8 +130,8 @@ pub fn read_record_as(chart: &[u8], settings: &[u8], records: &[f64], place: usi
 
 // The values of a place, as the table has them.
 pub fn read_values(chart: &[u8], values: &[f64], place: usize) -> ValuesAnswer
-    ensures* { λ r. ⌜ result (values_answer r) chart.now [] values.now
-        ≡ outcome (ops.read_values place) (state chart.now [] values.now) ⌝ }
+    ensures { outcome_with (values_answer result) chart.now [] values.now
+        ≡ outcome (ops.read_values place) (state chart.now [] values.now) }
 {
     match check_reading(chart, values.len(), calls::VALUE_WIDTH, place) {
         Verdict::Refused(r) => ValuesAnswer::Refused(r),
@@ -140,9 +141,8 @@ pub fn read_values(chart: &[u8], values: &[f64], place: usize) -> ValuesAnswer
 
 // The values of a place, as the table has them, for the second player.
 pub fn read_values_as(chart: &[u8], settings: &[u8], values: &[f64], place: usize) -> ValuesAnswer
-    ensures* values_value { λ r. ⌜ result (values_answer r) chart.now [] values.now
-        ≡ outcome_as settings.now (ops.read_values place) (state chart.now [] values.now) ⌝ }
-    ensures* settings { λ _. ⌜ settings.now ≡ settings.now ⌝ }
+    ensures values_value { outcome_with (values_answer result) chart.now [] values.now
+        ≡ outcome_as settings.now (ops.read_values place) (state chart.now [] values.now) }
 {
     match check_reading_as(chart, settings, values.len(), calls::VALUE_WIDTH, place) {
         Verdict::Refused(r) => ValuesAnswer::Refused(r),
@@ -153,7 +153,7 @@ pub fn read_values_as(chart: &[u8], settings: &[u8], values: &[f64], place: usiz
 // Aim at a place from 1 to n - 1, from the records of the table; no setting plays a part.
 fn aim_at(chart: &[u8], records: &[f64], place: usize) -> AimDetail
     requires { InTable chart.now (length records.now) place }
-    ensures* { λ r. ⌜ aim_finding r ≡ detail_from details.aim_parts (settings_of chart.now) chart.now records.now place ⌝ }
+    ensures { aim_finding result ≡ detail_from details.aim_parts (settings_of chart.now) chart.now records.now place }
 {
     let lay = chart_opening::layout_of(chart);
     let parts = eval_aim::parts_place(records, chart, lay, place, true);
@@ -168,8 +168,8 @@ fn aim_at(chart: &[u8], records: &[f64], place: usize) -> AimDetail
 
 // Aim's value at a place with its parts, from the records of the table.
 pub fn read_aim_parts(chart: &[u8], records: &[f64], place: usize) -> AimAnswer
-    ensures* { λ r. ⌜ result (aim_answer r) chart.now records.now []
-        ≡ outcome (ops.read_detail details.aim_parts place) (state chart.now records.now []) ⌝ }
+    ensures { outcome_with (aim_answer result) chart.now records.now []
+        ≡ outcome (ops.read_detail details.aim_parts place) (state chart.now records.now []) }
 {
     match check_reading(chart, records.len(), calls::RECORD_WIDTH, place) {
         Verdict::Refused(r) => AimAnswer::Refused(r),
@@ -179,9 +179,8 @@ pub fn read_aim_parts(chart: &[u8], records: &[f64], place: usize) -> AimAnswer
 
 // Aim's value at a place with its parts, from the records of the table, for the second player.
 pub fn read_aim_parts_as(chart: &[u8], settings: &[u8], records: &[f64], place: usize) -> AimAnswer
-    ensures* records_value { λ r. ⌜ result (aim_answer r) chart.now records.now []
-        ≡ outcome_as settings.now (ops.read_detail details.aim_parts place) (state chart.now records.now []) ⌝ }
-    ensures* settings { λ _. ⌜ settings.now ≡ settings.now ⌝ }
+    ensures records_value { outcome_with (aim_answer result) chart.now records.now []
+        ≡ outcome_as settings.now (ops.read_detail details.aim_parts place) (state chart.now records.now []) }
 {
     match check_reading_as(chart, settings, records.len(), calls::RECORD_WIDTH, place) {
         Verdict::Refused(r) => AimAnswer::Refused(r),
@@ -192,7 +191,7 @@ pub fn read_aim_parts_as(chart: &[u8], settings: &[u8], records: &[f64], place: 
 // The rhythm value at a place from 1 to n - 1 and its comparisons, from the records of the table.
 fn rhythm_at(chart: &[u8], set: Settings, records: &[f64], place: usize) -> Counted
     requires { InTable chart.now (length records.now) place }
-    ensures* { λ r. ⌜ rhythm_finding r ≡ detail_from details.rhythm set chart.now records.now place ⌝ }
+    ensures { rhythm_finding result ≡ detail_from details.rhythm set chart.now records.now place }
 {
     let lay = chart_opening::layout_of(chart);
     eval_rhythm::evaluate_counted(records, chart, lay, place, set.hit_window)
@@ -200,8 +199,8 @@ fn rhythm_at(chart: &[u8], set: Settings, records: &[f64], place: usize) -> Coun
 
 // The rhythm value of a place, and how often an island was compared with a kept one for it, from the records of the table.
 pub fn read_rhythm(chart: &[u8], records: &[f64], place: usize) -> RhythmAnswer
-    ensures* { λ r. ⌜ result (rhythm_answer r) chart.now records.now []
-        ≡ outcome (ops.read_detail details.rhythm place) (state chart.now records.now []) ⌝ }
+    ensures { outcome_with (rhythm_answer result) chart.now records.now []
+        ≡ outcome (ops.read_detail details.rhythm place) (state chart.now records.now []) }
 {
     match check_reading(chart, records.len(), calls::RECORD_WIDTH, place) {
         Verdict::Refused(r) => RhythmAnswer::Refused(r),
@@ -214,9 +213,8 @@ pub fn read_rhythm(chart: &[u8], records: &[f64], place: usize) -> RhythmAnswer
 
 // The rhythm value of a place, and how often an island was compared with a kept one for it, from the records of the table, for the second player.
 pub fn read_rhythm_as(chart: &[u8], settings: &[u8], records: &[f64], place: usize) -> RhythmAnswer
-    ensures* records_value { λ r. ⌜ result (rhythm_answer r) chart.now records.now []
-        ≡ outcome_as settings.now (ops.read_detail details.rhythm place) (state chart.now records.now []) ⌝ }
-    ensures* settings { λ _. ⌜ settings.now ≡ settings.now ⌝ }
+    ensures records_value { outcome_with (rhythm_answer result) chart.now records.now []
+        ≡ outcome_as settings.now (ops.read_detail details.rhythm place) (state chart.now records.now []) }
 {
     match check_reading_as(chart, settings, records.len(), calls::RECORD_WIDTH, place) {
         Verdict::Refused(r) => RhythmAnswer::Refused(r),

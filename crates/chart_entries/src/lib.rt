@@ -1,4 +1,5 @@
 // A slider's nested entries and points, and condition 4 on them (document 01, "The chart" and "What each call answers").
+#![tactic(auto)]
 
 ghost use Rattle.std.specs.Prelude.{◌≡◌, ◌+◌, ◌<◌, ◌≤◌, leb, length};
 ghost use Rattle.chart_fields.specs.Limits.{nested_size, point_size};
@@ -22,7 +23,7 @@ pub const REPEAT: u32 = 1;
 pub const TAIL: u32 = 2;
 
 // A nested entry's fields as they are stored: a tick, a repeat or the tail of a slider.
-#[derive(Drop)]
+#[derive(Clone, Copy)]
 pub struct Nested {
     pub start: f64,
     pub x: f32,
@@ -32,7 +33,7 @@ pub struct Nested {
 }
 
 // A point of a slider's path, and the path's length up to it.
-#[derive(Drop)]
+#[derive(Clone, Copy)]
 pub struct Point {
     pub x: f32,
     pub y: f32,

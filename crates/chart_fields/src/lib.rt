@@ -1,4 +1,5 @@
 // A chart's objects by a layout, and conditions 3 and 5 on them (document 01, "The chart" and "What each call answers").
+#![tactic(auto)]
 
 ghost use Rattle.std.specs.Prelude.{◌≡◌, ◌+◌, ◌<◌, ◌≤◌, length};
 ghost use Rattle.chart_fields.specs.Limits.{object_size};
@@ -38,7 +39,7 @@ const SHORTEST_SLIDER: f64 = 0.001;
 pub const LONGEST_PATH: f64 = 1_000_000.0;
 
 // The counts of a chart, an object's size in bytes, and the offsets of the two tables behind the objects: read from the header once.
-#[derive(Drop)]
+#[derive(Clone, Copy)]
 pub struct Layout {
     pub n: usize,
     pub nested: usize,
@@ -49,7 +50,7 @@ pub struct Layout {
 }
 
 // An object's fields as they are stored, whatever they hold; the length is the one that a slider states, 0 for the drawn one.
-#[derive(Drop)]
+#[derive(Clone, Copy)]
 pub struct Fields {
     pub start: f64,
     pub end: f64,

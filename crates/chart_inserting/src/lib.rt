@@ -1,4 +1,5 @@
 // Putting an object in and taking one out (document 02, order 1).
+#![tactic(auto)]
 
 ghost use Rattle.std.specs.Prelude.{◌≡◌, true, ◌+◌, ◌^◌, ◌<◌, ◌≤◌, length};
 ghost use Rattle.chart_fields.specs.Limits.{header_size};

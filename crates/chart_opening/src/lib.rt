@@ -1,4 +1,5 @@
 // A chart's header and settings, and the conditions of opening in their order (document 01, "The chart" and "What each call answers").
+#![tactic(auto)]
 
 ghost use Rattle.std.specs.Prelude.{◌≡◌, ◌&&◌, ◌+◌, ◌*◌, ◌^◌, ◌<◌, ◌≤◌, leb, length};
 ghost use Rattle.chart_fields.specs.Limits.{header_size, point_size};
@@ -12,7 +13,7 @@ ghost use Rattle.chart_opening.specs.Conditions.{refusal_number, refusal_place, 
 use chart_fields::Layout;
 
 // A chart's settings, the flags taken apart.
-#[derive(Drop)]
+#[derive(Clone, Copy)]
 pub struct Settings {
     pub clock_rate: f64,
     pub radius: f64,
@@ -25,7 +26,7 @@ pub struct Settings {
 }
 
 // Why a call is refused: the ten conditions, with the offending place where they have one.
-#[derive(Drop)]
+#[derive(Clone, Copy)]
 pub enum Refusal {
     Header,
     Setting,
@@ -40,7 +41,7 @@ pub enum Refusal {
 }
 
 // What a call that can be refused answers.
-#[derive(Drop)]
+#[derive(Clone, Copy)]
 pub enum Verdict {
     Accepted,
     Refused(Refusal),

@@ -1,5 +1,6 @@
 // Two players over one chart (document 02, order 8): the second player's settings come with a call. Where a condition does not depend on the settings, one
 // check of the chart's bytes serves both players.
+#![tactic(auto)]
 
 ghost use Rattle.std.specs.Prelude.{◌≡◌, length};
 ghost use Rattle.chart_opening.specs.Header.{header_ok};

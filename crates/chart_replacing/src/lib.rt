@@ -1,4 +1,5 @@
 // Replacing an object of a chart (document 01, "What each call answers").
+#![tactic(auto)]
 
 ghost use Rattle.std.specs.Prelude.{◌≡◌, ◌+◌, ◌<◌, ◌≤◌, length};
 ghost use Rattle.num_tables.specs.Parts as parts;

@@ -1,4 +1,6 @@
 // How hard an object is to aim at: evaluators/aim.rs.
+#![tactic(auto)]
+
 ghost use Rattle.std.specs.Prelude.{◌≡◌, true, false, ◌+◌, ◌*◌, ◌-◌, ◌≤◌, ◌<◌, leb, length};
 ghost use Rattle.chart_fields.specs.Objects.{Holds};
 ghost use Rattle.osu_object.specs.Osu.{object_of};
@@ -32,7 +34,7 @@ const VELOCITY_CHANGE_MULTIPLIER: f64 = 0.75;
 const WIGGLE_MULTIPLIER: f64 = 1.02;
 
 // Which rule answered.
-#[derive(Drop)]
+#[derive(Clone, Copy)]
 pub enum AimRule {
     TooFew,
     Spinner,
@@ -41,7 +43,7 @@ pub enum AimRule {
 }
 
 // What the branch on the angles assigns.
-#[derive(Drop)]
+#[derive(Clone, Copy)]
 pub struct AngleBonus {
     pub wide: f64,
     pub acute: f64,
@@ -49,7 +51,7 @@ pub struct AngleBonus {
 }
 
 // The value in parts, as they stand before the last lines put them together.
-#[derive(Drop)]
+#[derive(Clone, Copy)]
 pub struct AimParts {
     pub rule: AimRule,
     pub curr_vel: f64,
@@ -63,7 +65,7 @@ pub struct AimParts {
 }
 
 // The values of a place with and without sliders.
-#[derive(Drop)]
+#[derive(Clone, Copy)]
 pub struct AimValues {
     pub with: f64,
     pub without: f64,

@@ -1,4 +1,6 @@
 // How hard an object is to remember and see within the flashlight: evaluators/flashlight.rs.
+#![tactic(auto)]
+
 ghost use Rattle.std.specs.Prelude.{◌≡◌, ◌+◌, ◌*◌, ◌-◌, ◌≤◌, ◌<◌, min, length};
 ghost use Rattle.osu_object.specs.Osu.{Ready, object_of};
 ghost use Rattle.osu_records.specs.Rows.{record_at};
@@ -20,7 +22,7 @@ const SCALED_RADIUS: f64 = 52.0;
 // How many records the walk goes back over at most.
 const HISTORY: usize = 10;
 
-#[derive(Drop)]
+#[derive(Clone, Copy)]
 pub struct FlashlightEvaluator {
     pub scaling_factor: f64,
     pub time_preempt: f64,
@@ -28,7 +30,7 @@ pub struct FlashlightEvaluator {
 }
 
 // What the walk back carries.
-#[derive(Drop)]
+#[derive(Clone, Copy)]
 pub struct FlashlightState {
     pub small_dist_nerf: f64,
     pub cumulative_strain_time: f64,

@@ -4,6 +4,8 @@
 //
 // The borrow checker covers no function with a `&[OsuDifficultyObject]`: `nth`, `window` and the four entries are proved by walks of their
 // MIR. What they call takes numbers, structs and arrays by value, or lends slices of numbers, and is covered.
+#![tactic(auto)]
+
 ghost use Rattle.std.specs.Prelude.{◌≡◌, ◌+◌, ◌-◌, ◌≤◌, ◌<◌, length, replicate};
 ghost use Rattle.chart_fields.specs.Objects.{Holds};
 ghost use Rattle.osu_object.specs.Osu.{Ready};

@@ -15,21 +15,21 @@ const LARGEST: i32 = 2147483647;
 // f64::EPSILON.
 const EPSILON: f64 = 0.0000000000000002220446049250313;
 
-#[derive(Drop)]
+#[derive(Clone, Copy)]
 pub struct RhythmIsland {
     pub delta_difference_eps: f64,
     pub delta: i32,
     pub delta_count: i32,
 }
 
-#[derive(Drop)]
+#[derive(Clone, Copy)]
 pub struct IslandCount {
     pub island: RhythmIsland,
     pub count: u32,
 }
 
 // What a search gives: the place of the island, and how many entries it was compared with.
-#[derive(Drop)]
+#[derive(Clone, Copy)]
 pub struct Search {
     pub place: usize,
     pub compared: usize,

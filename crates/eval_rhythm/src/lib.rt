@@ -1,4 +1,6 @@
 // The rhythm evaluator: evaluators/rhythm.rs.
+#![tactic(auto)]
+
 ghost use Rattle.std.specs.Prelude.{◌≡◌, ◌+◌, ◌*◌, ◌-◌, ◌≤◌, ◌<◌, length};
 ghost use Rattle.chart_fields.specs.Objects.{Holds};
 ghost use Rattle.osu_object.specs.Osu.{object_of};
@@ -24,14 +26,14 @@ const HISTORY_OBJECTS_MAX: usize = 32;
 const RHYTHM_OVERALL_MULTIPLIER: f64 = 1.0;
 
 // The value, and how often an island was compared with a kept one while its first match was looked for.
-#[derive(Drop)]
+#[derive(Clone, Copy)]
 pub struct Counted {
     pub value: f64,
     pub comparisons: usize,
 }
 
 // What the run gives: the sum, and the comparisons of its searches.
-#[derive(Drop)]
+#[derive(Clone, Copy)]
 struct Summed {
     sum: f64,
     comparisons: usize,

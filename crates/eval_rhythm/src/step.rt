@@ -18,7 +18,7 @@ const RHYTHM_RATIO_MULTIPLIER: f64 = 15.0;
 const LEAST_DELTA: f64 = 0.0000001;
 
 // What the turns of the loop carry beside the island counts, of which there are n.
-#[derive(Drop)]
+#[derive(Clone, Copy)]
 pub struct RhythmState {
     pub island: RhythmIsland,
     pub prev_island: RhythmIsland,
@@ -29,7 +29,7 @@ pub struct RhythmState {
 }
 
 // What a switch gives: the state after it, the entry to store and its place, and how many entries were compared.
-#[derive(Drop)]
+#[derive(Clone, Copy)]
 pub struct Switch {
     pub state: RhythmState,
     pub place: usize,
@@ -38,7 +38,7 @@ pub struct Switch {
 }
 
 // What the evaluator reads of a record and its base object.
-#[derive(Drop)]
+#[derive(Clone, Copy)]
 pub struct Cell {
     pub start_time: f64,
     pub delta_time: f64,
@@ -47,7 +47,7 @@ pub struct Cell {
 }
 
 // The delta times of three records in a row.
-#[derive(Drop)]
+#[derive(Clone, Copy)]
 pub struct Deltas {
     pub curr: f64,
     pub prev: f64,

@@ -1,4 +1,6 @@
 // The speed evaluator: evaluators/speed.rs.
+#![tactic(auto)]
+
 ghost use Rattle.std.specs.Prelude.{◌≡◌, ◌*◌, ◌-◌, ◌≤◌, ◌<◌, length};
 ghost use Rattle.osu_records.specs.Rows.{record_at};
 ghost use Rattle.chart_fields.specs.Objects.{Holds};

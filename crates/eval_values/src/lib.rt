@@ -1,4 +1,6 @@
 // The five values of a place, and rows of the value table.
+#![tactic(auto)]
+
 ghost use Rattle.std.specs.Prelude.{◌≡◌, ◌+◌, ◌-◌, ◌*◌, ◌≤◌, ◌<◌, length};
 ghost use Rattle.num_tables.specs.Parts.{row, put, fill};
 ghost use Rattle.osu_object.specs.Osu.{Ready};
@@ -7,7 +9,7 @@ ghost use Rattle.eval_values.specs.Values.{row_of, values_in};
 use chart_fields::Layout;
 use chart_opening::Settings;
 
-#[derive(Drop)]
+#[derive(Clone, Copy)]
 pub struct Values {
     pub aim: f64,
     pub aim_no_sliders: f64,

@@ -1,4 +1,6 @@
 // The lister: reads a chart from standard input and writes its values and totals, or why it is refused.
+#![tactic(auto)]
+
 ghost use Rattle.std.specs.Prelude.{◌≡◌, ◌≤◌, length, take};
 ghost use Rattle.print_listing.specs.List.{list_text};
 

@@ -1,5 +1,7 @@
 // Tables are flat slices of rows: specs/Parts defines a row, the making anew of rows and the moving of a part, specs/Rows and specs/Moves have their laws.
 // The code moves parts within a slice, one element after the other, in the order in which none is written before it was read.
+#![tactic(auto)]
+
 ghost use Rattle.std.specs.Prelude.{◌≡◌, ◌+◌, ◌≤◌, length};
 ghost use Rattle.num_tables.specs.Parts.{moved};
 

@@ -1,4 +1,6 @@
 // T(1) to T(40) worked out by their rule (document 01, "Positions, paths, numbers"); `num_elementary::roots` has them as a constant.
+#![tactic(auto)]
+
 ghost use Rattle.std.specs.Prelude.{◌≡◌, ◌*◌, ◌^◌, ◌≤◌};
 ghost use Rattle.num_elementary.specs.Roots.{two_roots};
 ghost use Rattle.num_two_table.specs.Rule.{Largest, Table};

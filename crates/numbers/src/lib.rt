@@ -1,4 +1,6 @@
 // The rules' functions on numbers under C names, for other makers. Each answers for every argument.
+#![tactic(auto)]
+
 ghost use Rattle.std.specs.Prelude.{◌≡◌};
 ghost use Rattle.std.specs.Float.{binary32, binary64};
 ghost use Rattle.num_roots.specs.Root.{root_of};

@@ -14,14 +14,14 @@ use osu_pos::Pos;
 const TAIL_LENIENCY: f64 = -36.0;
 
 // The place from which the order of entries is turned, the number of entries if it stays, and the tracking end time.
-#[derive(Drop)]
+#[derive(Clone, Copy)]
 pub struct Tracking {
     pub moved: usize,
     pub end_time: f64,
 }
 
 // The walk over the entries: where the cursor is, the lazy end, and how far it travelled.
-#[derive(Drop)]
+#[derive(Clone, Copy)]
 pub struct CursorState {
     pub cursor: Pos,
     pub lazy_end: Pos,
@@ -29,7 +29,7 @@ pub struct CursorState {
 }
 
 // What the record takes from a slider; zeros for the other kinds.
-#[derive(Drop)]
+#[derive(Clone, Copy)]
 pub struct Cursor {
     pub has_lazy_end: bool,
     pub lazy_end: Pos,

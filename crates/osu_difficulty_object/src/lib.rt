@@ -1,4 +1,6 @@
 // The object record: src/osu/difficulty/object.rs.
+#![tactic(auto)]
+
 ghost use Rattle.std.specs.Prelude.{◌≡◌, ◌<◌};
 ghost use Rattle.osu_object.specs.Osu.{Ready, object_of};
 ghost use Rattle.osu_difficulty_object.specs.Record.{plain_of, placed_of, travel_of, end_cursor, last_cursor, jump_dist, min_jump_time};
@@ -14,7 +16,7 @@ use osu_pos::Pos;
 pub mod cursor;
 
 // What records take from one object. Cursor, tail and repeats are zeros but for a slider.
-#[derive(Drop)]
+#[derive(Clone, Copy)]
 pub struct Placed {
     pub base: OsuObject,
     pub cursor: Cursor,
@@ -23,14 +25,14 @@ pub struct Placed {
 }
 
 // How far and how long a slider travels.
-#[derive(Drop)]
+#[derive(Clone, Copy)]
 pub struct Travel {
     pub dist: f64,
     pub time: f64,
 }
 
 // From the object before.
-#[derive(Drop)]
+#[derive(Clone, Copy)]
 pub struct Jump {
     pub lazy_dist: f64,
     pub min_dist: f64,
@@ -38,14 +40,14 @@ pub struct Jump {
 }
 
 // The angle, 0 where there is none.
-#[derive(Drop)]
+#[derive(Clone, Copy)]
 pub struct Turn {
     pub has_angle: bool,
     pub angle: f64,
 }
 
 // What `set_distances` works out for a record.
-#[derive(Drop)]
+#[derive(Clone, Copy)]
 pub struct Distances {
     pub travel: Travel,
     pub jump: Jump,
@@ -53,7 +55,7 @@ pub struct Distances {
 }
 
 // The record of a place, times and distances by clock rate and radius; 0 where there is no value.
-#[derive(Drop)]
+#[derive(Clone, Copy)]
 pub struct OsuDifficultyObject {
     pub start_time: f64,
     pub delta_time: f64,

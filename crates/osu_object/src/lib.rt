@@ -1,4 +1,6 @@
 // An object of the chart, with its nested entries and the points of its path (src/osu/object.rs).
+#![tactic(auto)]
+
 ghost use Rattle.std.specs.Prelude.{◌≡◌, true, ◌+◌, ◌-◌, ◌<◌, length};
 ghost use Rattle.chart_fields.specs.Objects.{Holds};
 ghost use Rattle.osu_object.specs.Osu.{kind_of, osu_object, runs_of, object_of, stacked_pos, is_slider, is_spinner};
@@ -14,7 +16,7 @@ use osu_pos::Pos;
 const LEAST_APART: f64 = 0.001;
 
 // A slider's kind carries its end time and span count.
-#[derive(Drop)]
+#[derive(Clone, Copy)]
 pub enum OsuObjectKind {
     Circle,
     Spinner,
@@ -22,7 +24,7 @@ pub enum OsuObjectKind {
 }
 
 // An object without its entries. The length is the one that a slider's path is stated to have, 0 for the drawn one.
-#[derive(Drop)]
+#[derive(Clone, Copy)]
 pub struct OsuObject {
     pub pos: Pos,
     pub start_time: f64,
@@ -32,7 +34,7 @@ pub struct OsuObject {
 }
 
 // Where a slider's nested entries and points stand in their tables.
-#[derive(Drop)]
+#[derive(Clone, Copy)]
 pub struct Runs {
     pub nested_first: usize,
     pub nested_count: usize,
@@ -289,7 +291,7 @@ pub fn position_at(chart: &[u8], lay: Layout, r: Runs, stated: f64, progress: f6
 }
 
 // What the evaluators read of an object beside its nested entries; the position is stacked.
-#[derive(Drop)]
+#[derive(Clone, Copy)]
 pub struct BaseObject {
     pub slider: bool,
     pub spinner: bool,

@@ -1,9 +1,11 @@
 // Positions in f32, each operation rounded once.
+#![tactic(auto)]
+
 ghost use Rattle.std.specs.Prelude.{◌≡◌};
 ghost use Rattle.osu_pos.specs.Pos.{◌+ₚ◌, ◌-ₚ◌, ◌*ₚ◌, dot_of, det_of, length_of};
 
 // A position, or the way from one to another.
-#[derive(Drop)]
+#[derive(Clone, Copy)]
 pub struct Pos {
     pub x: f32,
     pub y: f32,

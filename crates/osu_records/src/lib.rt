@@ -1,4 +1,6 @@
 // The table of records: sixteen numbers an entry, in one slice; and what an evaluator sees of it and of the base objects.
+#![tactic(auto)]
+
 ghost use Rattle.std.specs.Prelude.{◌≡◌, ◌+◌, ◌*◌, ◌-◌, ◌≤◌, ◌<◌, length};
 ghost use Rattle.chart_fields.specs.Objects.{Holds};
 ghost use Rattle.osu_object.specs.Osu.{Ready, object_of};
@@ -111,14 +113,14 @@ pub fn fill(chart: &[u8], lay: Layout, set: Settings, t: &mut [f64])
 }
 
 // A record and its base object.
-#[derive(Drop)]
+#[derive(Clone, Copy)]
 pub struct Sight {
     pub diff: OsuDifficultyObject,
     pub base: BaseObject,
 }
 
 // The places whose records a lent part of the table holds.
-#[derive(Drop)]
+#[derive(Clone, Copy)]
 pub struct Part {
     pub first: usize,
     pub last: usize,

@@ -1,5 +1,7 @@
 // Packs in order: the charts of a pack are opened and rated, and a list of offsets into the pack is put in order, in its place. Nothing is assumed of the
 // caller: a call answers the first condition that the first such chart of the list meets and changes nothing, or is carried out and leaves all scratch 0.
+#![tactic(auto)]
+
 ghost use Rattle.std.specs.Prelude.{◌≡◌, map, ◌+◌, ◌*◌, ◌≤◌, ◌<◌, length, get_or};
 ghost use Rattle.num_tables.specs.Parts.{put, fill};
 ghost use Rattle.chart_opening.specs.Header.{layout_of, settings_of};
@@ -23,7 +25,7 @@ const MOST_CHARTS: usize = 256;
 const KEY_WIDTH: usize = 4;
 
 // The numbers by which charts are ordered, in turn: the stars and three of the totals.
-#[derive(Drop)]
+#[derive(Clone, Copy)]
 pub struct Key {
     pub stars: f64,
     pub aim: f64,

@@ -1,4 +1,6 @@
 // Lines of the programs' answers. As in `print_text`, each function appends at an offset of a lent buffer and returns the offset behind what it wrote.
+#![tactic(auto)]
+
 ghost use Rattle.std.specs.Prelude.{◌≡◌};
 ghost use Rattle.print_text.specs.Buffer.{Puts};
 ghost use Rattle.eval_values.specs.Values.{row_of};

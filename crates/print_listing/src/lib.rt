@@ -1,4 +1,6 @@
 // The lines that list a chart: the number of objects, the values of each place, the totals and the counts, or the refusal.
+#![tactic(auto)]
+
 ghost use Rattle.std.specs.Prelude.{◌≤◌, ◌<◌, ◌-◌, length};
 ghost use Rattle.print_text.specs.Buffer.{Puts};
 ghost use Rattle.num_tables.specs.Parts.{row};

@@ -1,5 +1,7 @@
 // Text in a lent buffer: each function puts its text at an offset and returns the offset behind it. An offset beyond the buffer's end says that
 // the buffer was too small; it stays beyond, so that a caller may look at the last one only.
+#![tactic(auto)]
+
 mod input;
 
 ghost use Rattle.std.specs.Prelude.{◌≡◌, [], ◌∷◌, ◌<◌, ◌≤◌};

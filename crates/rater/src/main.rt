@@ -1,6 +1,8 @@
 // The rater: reads from standard input what comes with a call for ratings, then a chart, and writes the ratings and the stars, or why there are none.
 // What comes with the call is 48 bytes, little-endian: the word of mods, a word whose bits 0 and 1 say whether attraction strength and start scale are given
 // (u32), then approach rate, overall difficulty, base multiplier, attraction strength and start scale (f64).
+#![tactic(auto)]
+
 ghost use Rattle.std.specs.Prelude.{◌≤◌, length};
 
 use calls_figures::RatingsAnswer;

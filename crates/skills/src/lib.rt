@@ -1,4 +1,6 @@
 // Strains, the section walk and the totals of the four skills (document 01, "Strains and totals").
+#![tactic(auto)]
+
 ghost use Rattle.std.specs.Prelude.{◌≡◌, ◌+◌, ◌-◌, ◌*◌, ◌≤◌, ◌<◌, length, take, set, replicate};
 ghost use Rattle.num_floats.specs.Numbers.{zero64};
 ghost use Rattle.chart_fields.specs.Objects.{Holds, fields_of};
@@ -17,7 +19,7 @@ pub mod strain;
 use chart_fields::Layout;
 
 // The four skills.
-#[derive(Drop)]
+#[derive(Clone, Copy)]
 pub enum Skill {
     Aim,
     AimNoSliders,
@@ -26,7 +28,7 @@ pub enum Skill {
 }
 
 // A number for each skill.
-#[derive(Drop)]
+#[derive(Clone, Copy)]
 pub struct Skills {
     pub aim: f64,
     pub aim_no_sliders: f64,
@@ -35,7 +37,7 @@ pub struct Skills {
 }
 
 // The sections of the walk: how many are closed, the open one's peak, and its end.
-#[derive(Drop)]
+#[derive(Clone, Copy)]
 pub struct Sections {
     pub count: usize,
     pub peak: f64,
@@ -43,7 +45,7 @@ pub struct Sections {
 }
 
 // What the walk holds of a skill: its sections, its decaying strain, and its strain at the place before.
-#[derive(Drop)]
+#[derive(Clone, Copy)]
 struct Strand {
     sections: Sections,
     current: f64,
@@ -51,7 +53,7 @@ struct Strand {
 }
 
 // How many peaks there are of aim, aim without sliders and flashlight.
-#[derive(Drop)]
+#[derive(Clone, Copy)]
 struct Peaks {
     aim: usize,
     aim_no_sliders: usize,
@@ -59,7 +61,7 @@ struct Peaks {
 }
 
 // The totals of the skills whose strains decay alike.
-#[derive(Drop)]
+#[derive(Clone, Copy)]
 struct AlikeTotals {
     aim: f64,
     aim_no_sliders: f64,

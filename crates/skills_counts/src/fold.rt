@@ -9,14 +9,14 @@ use chart_fields::Layout;
 use skills::Skill;
 
 // The objects whose strains are joined.
-#[derive(Drop)]
+#[derive(Clone, Copy)]
 pub enum Objects {
     All,
     Sliders,
 }
 
 // By what a strain is joined: its weight for a top strain is added, a slider's weight, its share of a largest strain; or it is the larger of the two.
-#[derive(Drop)]
+#[derive(Clone, Copy)]
 pub enum Joining {
     Weight(f64),
     SliderWeight(f64),
@@ -26,7 +26,7 @@ pub enum Joining {
 }
 
 // What the strain of a place needs from the place before, and the strain: the start as the chart has it and the decaying strain.
-#[derive(Drop)]
+#[derive(Clone, Copy)]
 pub struct Place {
     pub start: f64,
     pub current: f64,

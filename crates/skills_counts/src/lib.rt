@@ -1,5 +1,7 @@
 // The counts of a chart: how many objects carry it. The sums run over strains in place order; the strains do not fit the scratch, so each sum works them
 // out anew.
+#![tactic(auto)]
+
 ghost use Rattle.std.specs.Prelude.{◌≡◌, ◌≤◌, length, replicate};
 ghost use Rattle.num_floats.specs.Numbers.{zero64};
 ghost use Rattle.skills.specs.Chart.{Readable, Roomy};
@@ -19,7 +21,7 @@ use speed::relevant_note_count;
 use strain::count_top_weighted_sliders;
 
 // The counts, under the names of osu/difficulty/mod.rs.
-#[derive(Drop)]
+#[derive(Clone, Copy)]
 pub struct ObjectCounts {
     pub aim_difficult_strain_count: f64,
     pub aim_no_sliders_difficult_strain_count: f64,

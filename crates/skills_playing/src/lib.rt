@@ -1,4 +1,6 @@
 // Values while playing: the totals over the first places of a chart, for every number of places, from one walk.
+#![tactic(auto)]
+
 ghost use Rattle.std.specs.Prelude.{◌≡◌, ◌+◌, ◌-◌, ◌*◌, ◌≤◌, ◌<◌, length, take, replicate};
 ghost use Rattle.num_floats.specs.Numbers.{zero64};
 ghost use Rattle.num_tables.specs.Parts.{row, put, fill};
@@ -13,7 +15,7 @@ use skills::{Skill, Skills};
 
 // A skill's walk so far: the peaks above zero of the closed sections, in order, are the first `kept` numbers of its scratch; `count` sections are closed, and
 // `sum` is the sum of their peaks; the open section's peak and its end; and the last place's decaying strain and strain.
-#[derive(Drop)]
+#[derive(Clone, Copy)]
 pub struct Played {
     pub kept: usize,
     pub count: usize,
@@ -25,7 +27,7 @@ pub struct Played {
 }
 
 // The four skills' walks.
-#[derive(Drop)]
+#[derive(Clone, Copy)]
 pub struct Four {
     pub aim: Played,
     pub aim_no_sliders: Played,

@@ -1,4 +1,6 @@
 // The aim, speed and flashlight ratings of a chart's totals: osu/difficulty/rating.rs.
+#![tactic(auto)]
+
 ghost use Rattle.std.specs.Prelude.{◌≡◌, ◌-◌, cond};
 ghost use Rattle.skills_rating.specs.Rating as Rating;
 
@@ -23,7 +25,7 @@ const SHORT: u32 = 200;
 const AR_FACTOR_END_POINT: f64 = 11.5;
 
 // What the ratings of a chart go by, beside its totals.
-#[derive(Drop)]
+#[derive(Clone, Copy)]
 pub struct OsuRatingCalculator {
     mods: Mods,
     total_hits: u32,

@@ -4,7 +4,7 @@ ghost use Rattle.skills_rating.specs.Mods.{mods_of};
 ghost use Rattle.skills_rating.specs.Rating as Rating;
 
 // A flag for each of seven mods; attraction strength and start scale, each a flag and a number, which is not read without its flag.
-#[derive(Drop)]
+#[derive(Clone, Copy)]
 pub struct Mods {
     pub autopilot: bool,
     pub relax: bool,

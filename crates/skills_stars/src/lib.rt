@@ -1,4 +1,6 @@
 // The ratings and the stars of a chart's totals: what osu/difficulty/mod.rs makes of them, with the performances of skills/strain.rs and skills/flashlight.rs.
+#![tactic(auto)]
+
 ghost use Rattle.std.specs.Prelude.{◌≡◌};
 ghost use Rattle.skills_stars.specs.Stars as Stars;
 
@@ -11,7 +13,7 @@ const STAR_RATING_MULTIPLIER: f64 = 0.0265;
 const JOINING_POWER: f64 = 1.1;
 
 // What comes with the call. The base multiplier is the Rust's PERFORMANCE_BASE_MULTIPLIER.
-#[derive(Drop)]
+#[derive(Clone, Copy)]
 pub struct Asked {
     pub mods: Mods,
     pub approach_rate: f64,
@@ -44,7 +46,7 @@ impl Asked {
 }
 
 // The answer.
-#[derive(Drop)]
+#[derive(Clone, Copy)]
 pub struct Ratings {
     pub aim: f64,
     pub speed: f64,

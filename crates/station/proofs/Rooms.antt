@@ -24,7 +24,7 @@ use Rattle.eval_rhythm.proofs.Bounded.{comparisons_bounded}
 use Rattle.calls.specs.Tables.{value_entries}
 use Rattle.calls.specs.Afresh.{Record, count, object, rhythm, Finding, rhythm_is, detail_of, Figure, Amount}
 use Rattle.calls.specs.Conditions.{Scratch, lengths, scratch_short, Operation, read_detail, figure, sum_conditions, sum_verdict, asked_conditions, figure_conditions, figure_verdict, refusal}
-use Rattle.calls.specs.Calls.{Answer, refused, record_is, values_are, detail_is, figure_is, Outcome, State, state, result, refuse, execute, verdict_in, outcome, cleared, scratch_after}
+use Rattle.calls.specs.Calls.{Answer, refused, record_is, values_are, detail_is, figure_is, Outcome, State, state, outcome_with, refuse, execute, verdict_in, outcome, cleared, scratch_after}
 use Rattle.calls.proofs.Refusals.{sum_refused, sum_passed}
 use Rattle.chart_players.specs.Second.{under, second_verdict}
 use Rattle.chart_players.specs.Under.{own_length, under_own}
@@ -146,7 +146,7 @@ module _ (t : List ℕ) (f : Figure) (cramped : Bool) (x : Scratch) (b : List �
 
   -- with a cramped answer
   pub figure_short : cramped ≡ true → (r : Refusal) → Refused r ≡ second_verdict t b (sum_verdict (under t b) (value_entries (length vs)) true)
-      → (figure_into_as t f cramped x (state b [] vs) ≡ result (refused r) b [] vs) × (scratch_into_as t f cramped x (state b [] vs) ≡ x)
+      → (figure_into_as t f cramped x (state b [] vs) ≡ outcome_with (refused r) b [] vs) × (scratch_into_as t f cramped x (state b [] vs) ≡ x)
   unfolding figure_into_as scratch_into_as into_verdict_as outcome_by scratch_by asked if_accepted refuse
   figure_short h r e =
       let q = ap (λ (s : Bool). asked (s || scratch_short (lengths x))) h ∙ refused_sums true r e in
@@ -244,7 +244,7 @@ module _ (need room : ℕ) (a : Operation) (st : State) where
 
 module _ (f : Figure) (cramped : Bool) (x : Scratch) (b : List ℕ) (vs : List Float) where
   pub short_figure : length b < header_size
-      → (figure_into f cramped x (state b [] vs) ≡ result (refused Header) b [] vs) × (scratch_into f cramped x (state b [] vs) ≡ x)
+      → (figure_into f cramped x (state b [] vs) ≡ outcome_with (refused Header) b [] vs) × (scratch_into f cramped x (state b [] vs) ≡ x)
   unfolding figure_into scratch_into into_verdict if_accepted refuse
   short_figure h =
       let q = figure_header f b (value_entries (length vs)) (cramped || scratch_short (lengths x)) (header_short b h) in

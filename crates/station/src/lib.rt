@@ -1,6 +1,8 @@
 // The station's calls under C names, over slices: a slice passes as a pointer and a length. Nothing is assumed of the lengths or of the
 // contents. Each call answers 0 where it is carried out, else the refusal's number times 2^32 plus its place. A call whose name ends in as is the second
 // player's, with 48 bytes of settings; the first player's settings are the header's. An edit whose name ends in both is for both players.
+#![tactic(auto)]
+
 ghost use Rattle.std.specs.Prelude.{◌≡◌, true, [], ◌/◌, ◌≤◌, ltb, length, get_or};
 ghost use Rattle.std.specs.Float.{nan};
 ghost use Rattle.num_tables.specs.Parts.{put};
@@ -11,7 +13,7 @@ ghost use Rattle.calls.specs.Conditions as ops;
 ghost use Rattle.calls.specs.Afresh as kinds;
 ghost use Rattle.calls.specs.Conditions.{lengths, sum_verdict};
 ghost use Rattle.calls.specs.Tables.{totals_width};
-ghost use Rattle.calls.specs.Calls.{state, result, open_answer, open_leaves, verdict_in, outcome, list_after, scratch_after};
+ghost use Rattle.calls.specs.Calls.{state, outcome_with, open_answer, open_leaves, verdict_in, outcome, list_after, scratch_after};
 ghost use Rattle.calls_players.specs.Second.{open_answer_as, open_leaves_as, verdict_as, outcome_as, scratch_after_as};
 ghost use Rattle.calls_players.specs.Both.{pair, both_answer, both_leaves};
 ghost use Rattle.calls_readings.specs.Answers.{record_answer, values_answer, aim_finding, aim_answer, rhythm_answer};
@@ -50,7 +52,7 @@ const RHYTHM_WIDTH: usize = 2;
 
 // A refusal as one number.
 fn code(r: Refusal) -> u64
-    ensures* { λ x. ⌜ x ≡ code_of r ⌝ }
+    ensures { result ≡ code_of r }
 {
     r.number() as u64 * PLACE_SPAN as u64 + (r.place() % PLACE_SPAN) as u64
 }
@@ -63,10 +65,9 @@ pub extern "C" fn difficulty_open_as(
     records: &mut [f64],
     values: &mut [f64],
 ) -> u64
-    ensures* answer { λ r. ⌜ r ≡ verdict_code (open_answer_as settings.now (state chart.now records.old values.old)) ⌝ }
-    ensures* leaves { λ _. ⌜ state chart.now records.new values.new
-        ≡ open_leaves_as settings.now (state chart.now records.old values.old) ⌝ }
-    ensures* settings { λ _. ⌜ settings.now ≡ settings.now ⌝ }
+    ensures answer { result ≡ verdict_code (open_answer_as settings.now (state chart.now records.old values.old)) }
+    ensures leaves { state chart.now records.new values.new
+        ≡ open_leaves_as settings.now (state chart.now records.old values.old) }
 {
     match calls_editor::open_as(chart, settings, records, values) {
         Verdict::Refused(r) => code(r),
@@ -77,9 +78,9 @@ pub extern "C" fn difficulty_open_as(
 // Checks a chart and fills its tables.
 #[unsafe(no_mangle)]
 pub extern "C" fn difficulty_open(chart: &[u8], records: &mut [f64], values: &mut [f64]) -> u64
-    ensures* answer { λ r. ⌜ r ≡ verdict_code (open_answer (state chart.now records.old values.old)) ⌝ }
-    ensures* leaves { λ _. ⌜ state chart.now records.new values.new
-        ≡ open_leaves (state chart.now records.old values.old) ⌝ }
+    ensures answer { result ≡ verdict_code (open_answer (state chart.now records.old values.old)) }
+    ensures leaves { state chart.now records.new values.new
+        ≡ open_leaves (state chart.now records.old values.old) }
 {
     if chart.len() < chart_fields::HEADER_SIZE {
         return code(Refusal::Header);
@@ -96,12 +97,11 @@ pub extern "C" fn difficulty_replace(
     records: &mut [f64],
     values: &mut [f64],
 ) -> u64
-    ensures* answer { λ r. ⌜ r
+    ensures answer { result
         ≡ answer_code (outcome (ops.replace place object.now)
-        (state chart.old records.old values.old)).answer ⌝ }
-    ensures* leaves { λ _. ⌜ state chart.new records.new values.new
-        ≡ (outcome (ops.replace place object.now) (state chart.old records.old values.old)).leaves ⌝ }
-    ensures* object { λ _. ⌜ object.now ≡ object.now ⌝ }
+        (state chart.old records.old values.old)).answer }
+    ensures leaves { state chart.new records.new values.new
+        ≡ (outcome (ops.replace place object.now) (state chart.old records.old values.old)).leaves }
 {
     match calls_editor::replace(chart, place, object, records, values) {
         Verdict::Refused(r) => code(r),
@@ -121,13 +121,11 @@ pub extern "C" fn difficulty_replace_both(
     second_records: &mut [f64],
     second_values: &mut [f64],
 ) -> u64
-    ensures* answer { λ r. ⌜ r ≡ verdict_code (both_answer settings.now (ops.replace place object.now)
-        (pair chart.old records.old values.old second_records.old second_values.old)) ⌝ }
-    ensures* leaves { λ _. ⌜ pair chart.new records.new values.new second_records.new second_values.new
+    ensures answer { result ≡ verdict_code (both_answer settings.now (ops.replace place object.now)
+        (pair chart.old records.old values.old second_records.old second_values.old)) }
+    ensures leaves { pair chart.new records.new values.new second_records.new second_values.new
         ≡ both_leaves settings.now (ops.replace place object.now)
-        (pair chart.old records.old values.old second_records.old second_values.old) ⌝ }
-    ensures* settings { λ _. ⌜ settings.now ≡ settings.now ⌝ }
-    ensures* object { λ _. ⌜ object.now ≡ object.now ⌝ }
+        (pair chart.old records.old values.old second_records.old second_values.old) }
 {
     match calls_editor::replace_both(
         chart,
@@ -153,12 +151,11 @@ pub extern "C" fn difficulty_insert(
     records: &mut [f64],
     values: &mut [f64],
 ) -> u64
-    ensures* answer { λ r. ⌜ r
+    ensures answer { result
         ≡ answer_code (outcome (ops.insert place object.now)
-        (state chart.old records.old values.old)).answer ⌝ }
-    ensures* leaves { λ _. ⌜ state chart.new records.new values.new
-        ≡ (outcome (ops.insert place object.now) (state chart.old records.old values.old)).leaves ⌝ }
-    ensures* object { λ _. ⌜ object.now ≡ object.now ⌝ }
+        (state chart.old records.old values.old)).answer }
+    ensures leaves { state chart.new records.new values.new
+        ≡ (outcome (ops.insert place object.now) (state chart.old records.old values.old)).leaves }
 {
     match calls_editor::insert(chart, place, object, records, values) {
         Verdict::Refused(r) => code(r),
@@ -178,13 +175,11 @@ pub extern "C" fn difficulty_insert_both(
     second_records: &mut [f64],
     second_values: &mut [f64],
 ) -> u64
-    ensures* answer { λ r. ⌜ r ≡ verdict_code (both_answer settings.now (ops.insert place object.now)
-        (pair chart.old records.old values.old second_records.old second_values.old)) ⌝ }
-    ensures* leaves { λ _. ⌜ pair chart.new records.new values.new second_records.new second_values.new
+    ensures answer { result ≡ verdict_code (both_answer settings.now (ops.insert place object.now)
+        (pair chart.old records.old values.old second_records.old second_values.old)) }
+    ensures leaves { pair chart.new records.new values.new second_records.new second_values.new
         ≡ both_leaves settings.now (ops.insert place object.now)
-        (pair chart.old records.old values.old second_records.old second_values.old) ⌝ }
-    ensures* settings { λ _. ⌜ settings.now ≡ settings.now ⌝ }
-    ensures* object { λ _. ⌜ object.now ≡ object.now ⌝ }
+        (pair chart.old records.old values.old second_records.old second_values.old) }
 {
     match calls_editor::insert_both(
         chart,
@@ -209,10 +204,10 @@ pub extern "C" fn difficulty_remove(
     records: &mut [f64],
     values: &mut [f64],
 ) -> u64
-    ensures* answer { λ r. ⌜ r
-        ≡ answer_code (outcome (ops.remove place) (state chart.old records.old values.old)).answer ⌝ }
-    ensures* leaves { λ _. ⌜ state chart.new records.new values.new
-        ≡ (outcome (ops.remove place) (state chart.old records.old values.old)).leaves ⌝ }
+    ensures answer { result
+        ≡ answer_code (outcome (ops.remove place) (state chart.old records.old values.old)).answer }
+    ensures leaves { state chart.new records.new values.new
+        ≡ (outcome (ops.remove place) (state chart.old records.old values.old)).leaves }
 {
     match calls_editor::remove(chart, place, records, values) {
         Verdict::Refused(r) => code(r),
@@ -231,12 +226,11 @@ pub extern "C" fn difficulty_remove_both(
     second_records: &mut [f64],
     second_values: &mut [f64],
 ) -> u64
-    ensures* answer { λ r. ⌜ r ≡ verdict_code (both_answer settings.now (ops.remove place)
-        (pair chart.old records.old values.old second_records.old second_values.old)) ⌝ }
-    ensures* leaves { λ _. ⌜ pair chart.new records.new values.new second_records.new second_values.new
+    ensures answer { result ≡ verdict_code (both_answer settings.now (ops.remove place)
+        (pair chart.old records.old values.old second_records.old second_values.old)) }
+    ensures leaves { pair chart.new records.new values.new second_records.new second_values.new
         ≡ both_leaves settings.now (ops.remove place)
-        (pair chart.old records.old values.old second_records.old second_values.old) ⌝ }
-    ensures* settings { λ _. ⌜ settings.now ≡ settings.now ⌝ }
+        (pair chart.old records.old values.old second_records.old second_values.old) }
 {
     match calls_editor::remove_both(
         chart,
@@ -254,7 +248,7 @@ pub extern "C" fn difficulty_remove_both(
 
 // Why a reading is refused whose answer has no room.
 fn no_room(chart: &[u8]) -> Refusal
-    ensures* { λ r. ⌜ r ≡ no_room chart.now ⌝ }
+    ensures { result ≡ no_room chart.now }
 {
     if chart_opening::header_ok(chart) {
         return Refusal::Table;
@@ -264,7 +258,7 @@ fn no_room(chart: &[u8]) -> Refusal
 
 // Why a reading of the second player is refused whose answer has no room: 7 right after 1 and settings of another length.
 fn no_room_as(chart: &[u8], settings: &[u8]) -> Refusal
-    ensures* { λ r. ⌜ Refused r ≡ second_verdict settings.now chart.now (Refused Table) ⌝ }
+    ensures { Refused result ≡ second_verdict settings.now chart.now (Refused Table) }
 {
     if !chart_players::header_ok_as(chart, settings) {
         return Refusal::Header;
@@ -283,8 +277,8 @@ fn record_into_as(
     place: usize,
     room: usize,
 ) -> RecordAnswer
-    ensures* { λ r. ⌜ result (record_answer r) chart.now records.now []
-        ≡ read_into_as settings.now 16 room (ops.read_record place) (state chart.now records.now []) ⌝ }
+    ensures { outcome_with (record_answer result) chart.now records.now []
+        ≡ read_into_as settings.now 16 room (ops.read_record place) (state chart.now records.now []) }
 {
     if room < calls::RECORD_WIDTH {
         return RecordAnswer::Refused(no_room_as(chart, settings));
@@ -301,15 +295,13 @@ pub extern "C" fn difficulty_read_record_as(
     place: usize,
     out: &mut [f64],
 ) -> u64
-    ensures* answer { λ r. ⌜ r
+    ensures answer { result
         ≡ answer_code (read_into_as settings.now 16 (length out.old) (ops.read_record place)
-        (state chart.now records.now [])).answer ⌝ }
-    ensures* out { λ _. ⌜ out.new
+        (state chart.now records.now [])).answer }
+    ensures out { out.new
         ≡ put 0 (numbers_of (read_into_as settings.now 16 (length out.old) (ops.read_record place)
         (state chart.now records.now [])).answer)
-        out.old ⌝ }
-    ensures* leaves { λ _. ⌜ state chart.now records.now [] ≡ state chart.now records.now [] ⌝ }
-    ensures* settings { λ _. ⌜ settings.now ≡ settings.now ⌝ }
+        out.old }
 {
     match record_into_as(chart, settings, records, place, out.len()) {
         RecordAnswer::Refused(r) => code(r),
@@ -322,8 +314,8 @@ pub extern "C" fn difficulty_read_record_as(
 
 // The record of a place, for an answer with as much room.
 fn record_into(chart: &[u8], records: &[f64], place: usize, room: usize) -> RecordAnswer
-    ensures* { λ r. ⌜ result (record_answer r) chart.now records.now []
-        ≡ read_into 16 room (ops.read_record place) (state chart.now records.now []) ⌝ }
+    ensures { outcome_with (record_answer result) chart.now records.now []
+        ≡ read_into 16 room (ops.read_record place) (state chart.now records.now []) }
 {
     if room < calls::RECORD_WIDTH {
         return RecordAnswer::Refused(no_room(chart));
@@ -339,14 +331,13 @@ pub extern "C" fn difficulty_read_record(
     place: usize,
     out: &mut [f64],
 ) -> u64
-    ensures* answer { λ r. ⌜ r
+    ensures answer { result
         ≡ answer_code (read_into 16 (length out.old) (ops.read_record place)
-        (state chart.now records.now [])).answer ⌝ }
-    ensures* out { λ _. ⌜ out.new
+        (state chart.now records.now [])).answer }
+    ensures out { out.new
         ≡ put 0 (numbers_of (read_into 16 (length out.old) (ops.read_record place)
         (state chart.now records.now [])).answer)
-        out.old ⌝ }
-    ensures* leaves { λ _. ⌜ state chart.now records.now [] ≡ state chart.now records.now [] ⌝ }
+        out.old }
 {
     match record_into(chart, records, place, out.len()) {
         RecordAnswer::Refused(r) => code(r),
@@ -365,8 +356,8 @@ fn values_into_as(
     place: usize,
     room: usize,
 ) -> ValuesAnswer
-    ensures* { λ r. ⌜ result (values_answer r) chart.now [] values.now
-        ≡ read_into_as settings.now 5 room (ops.read_values place) (state chart.now [] values.now) ⌝ }
+    ensures { outcome_with (values_answer result) chart.now [] values.now
+        ≡ read_into_as settings.now 5 room (ops.read_values place) (state chart.now [] values.now) }
 {
     if room < calls::VALUE_WIDTH {
         return ValuesAnswer::Refused(no_room_as(chart, settings));
@@ -383,15 +374,13 @@ pub extern "C" fn difficulty_read_values_as(
     place: usize,
     out: &mut [f64],
 ) -> u64
-    ensures* answer { λ r. ⌜ r
+    ensures answer { result
         ≡ answer_code (read_into_as settings.now 5 (length out.old)
-        (ops.read_values place) (state chart.now [] values.now)).answer ⌝ }
-    ensures* out { λ _. ⌜ out.new
+        (ops.read_values place) (state chart.now [] values.now)).answer }
+    ensures out { out.new
         ≡ put 0 (numbers_of (read_into_as settings.now 5 (length out.old) (ops.read_values place)
         (state chart.now [] values.now)).answer)
-        out.old ⌝ }
-    ensures* leaves { λ _. ⌜ state chart.now [] values.now ≡ state chart.now [] values.now ⌝ }
-    ensures* settings { λ _. ⌜ settings.now ≡ settings.now ⌝ }
+        out.old }
 {
     match values_into_as(chart, settings, values, place, out.len()) {
         ValuesAnswer::Refused(r) => code(r),
@@ -404,8 +393,8 @@ pub extern "C" fn difficulty_read_values_as(
 
 // The values of a place, for an answer with as much room.
 fn values_into(chart: &[u8], values: &[f64], place: usize, room: usize) -> ValuesAnswer
-    ensures* { λ r. ⌜ result (values_answer r) chart.now [] values.now
-        ≡ read_into 5 room (ops.read_values place) (state chart.now [] values.now) ⌝ }
+    ensures { outcome_with (values_answer result) chart.now [] values.now
+        ≡ read_into 5 room (ops.read_values place) (state chart.now [] values.now) }
 {
     if room < calls::VALUE_WIDTH {
         return ValuesAnswer::Refused(no_room(chart));
@@ -421,13 +410,12 @@ pub extern "C" fn difficulty_read_values(
     place: usize,
     out: &mut [f64],
 ) -> u64
-    ensures* answer { λ r. ⌜ r
-        ≡ answer_code (read_into 5 (length out.old) (ops.read_values place) (state chart.now [] values.now)).answer ⌝ }
-    ensures* out { λ _. ⌜ out.new
+    ensures answer { result
+        ≡ answer_code (read_into 5 (length out.old) (ops.read_values place) (state chart.now [] values.now)).answer }
+    ensures out { out.new
         ≡ put 0 (numbers_of (read_into 5 (length out.old) (ops.read_values place)
         (state chart.now [] values.now)).answer)
-        out.old ⌝ }
-    ensures* leaves { λ _. ⌜ state chart.now [] values.now ≡ state chart.now [] values.now ⌝ }
+        out.old }
 {
     match values_into(chart, values, place, out.len()) {
         ValuesAnswer::Refused(r) => code(r),
@@ -446,8 +434,8 @@ fn aim_into_as(
     place: usize,
     room: usize,
 ) -> AimAnswer
-    ensures* { λ r. ⌜ result (aim_answer r) chart.now records.now []
-        ≡ read_into_as settings.now aim_width room (ops.read_detail kinds.aim_parts place) (state chart.now records.now []) ⌝ }
+    ensures { outcome_with (aim_answer result) chart.now records.now []
+        ≡ read_into_as settings.now aim_width room (ops.read_detail kinds.aim_parts place) (state chart.now records.now []) }
 {
     if room < AIM_WIDTH {
         return AimAnswer::Refused(no_room_as(chart, settings));
@@ -457,7 +445,7 @@ fn aim_into_as(
 
 // The rule that answered, as a number.
 fn rule_number(rule: AimRule) -> f64
-    ensures* { λ r. ⌜ r ≡ rule_number rule ⌝ }
+    ensures { result ≡ rule_number rule }
 {
     match rule {
         AimRule::TooFew => 0.0,
@@ -470,7 +458,7 @@ fn rule_number(rule: AimRule) -> f64
 // Writes aim in its parts, with sliders and then without.
 fn put_aim(out: &mut [f64], d: AimDetail)
     requires { aim_width ≤ length out.old }
-    ensures* { λ _. ⌜ out.new ≡ put 0 (finding_row (aim_finding d)) out.old ⌝ }
+    ensures { out.new ≡ put 0 (finding_row (aim_finding d)) out.old }
 {
     let p = d.parts;
     let q = d.parts_no_sliders;
@@ -507,13 +495,11 @@ pub extern "C" fn difficulty_read_aim_parts_as(
     place: usize,
     out: &mut [f64],
 ) -> u64
-    ensures* answer { λ r. ⌜ r ≡ answer_code (read_into_as settings.now aim_width (length out.old) (ops.read_detail kinds.aim_parts place)
-        (state chart.now records.now [])).answer ⌝ }
-    ensures* out { λ _. ⌜ out.new ≡ put 0 (numbers_of (read_into_as settings.now aim_width (length out.old)
+    ensures answer { result ≡ answer_code (read_into_as settings.now aim_width (length out.old) (ops.read_detail kinds.aim_parts place)
+        (state chart.now records.now [])).answer }
+    ensures out { out.new ≡ put 0 (numbers_of (read_into_as settings.now aim_width (length out.old)
         (ops.read_detail kinds.aim_parts place)
-        (state chart.now records.now [])).answer) out.old ⌝ }
-    ensures* leaves { λ _. ⌜ state chart.now records.now [] ≡ state chart.now records.now [] ⌝ }
-    ensures* settings { λ _. ⌜ settings.now ≡ settings.now ⌝ }
+        (state chart.now records.now [])).answer) out.old }
 {
     match aim_into_as(chart, settings, records, place, out.len()) {
         AimAnswer::Refused(r) => code(r),
@@ -532,11 +518,10 @@ pub extern "C" fn difficulty_read_aim_parts(
     place: usize,
     out: &mut [f64],
 ) -> u64
-    ensures* answer { λ r. ⌜ r ≡ answer_code (read_into aim_width (length out.old) (ops.read_detail kinds.aim_parts place)
-        (state chart.now records.now [])).answer ⌝ }
-    ensures* out { λ _. ⌜ out.new ≡ put 0 (numbers_of (read_into aim_width (length out.old) (ops.read_detail kinds.aim_parts place)
-        (state chart.now records.now [])).answer) out.old ⌝ }
-    ensures* leaves { λ _. ⌜ state chart.now records.now [] ≡ state chart.now records.now [] ⌝ }
+    ensures answer { result ≡ answer_code (read_into aim_width (length out.old) (ops.read_detail kinds.aim_parts place)
+        (state chart.now records.now [])).answer }
+    ensures out { out.new ≡ put 0 (numbers_of (read_into aim_width (length out.old) (ops.read_detail kinds.aim_parts place)
+        (state chart.now records.now [])).answer) out.old }
 {
     if chart.len() < chart_fields::HEADER_SIZE {
         return code(Refusal::Header);
@@ -552,8 +537,8 @@ fn rhythm_into_as(
     place: usize,
     room: usize,
 ) -> RhythmAnswer
-    ensures* { λ r. ⌜ result (rhythm_answer r) chart.now records.now []
-        ≡ read_into_as settings.now rhythm_width room (ops.read_detail kinds.rhythm place) (state chart.now records.now []) ⌝ }
+    ensures { outcome_with (rhythm_answer result) chart.now records.now []
+        ≡ read_into_as settings.now rhythm_width room (ops.read_detail kinds.rhythm place) (state chart.now records.now []) }
 {
     if room < RHYTHM_WIDTH {
         return RhythmAnswer::Refused(no_room_as(chart, settings));
@@ -570,13 +555,11 @@ pub extern "C" fn difficulty_read_rhythm_as(
     place: usize,
     out: &mut [f64],
 ) -> u64
-    ensures* answer { λ r. ⌜ r ≡ answer_code (read_into_as settings.now rhythm_width (length out.old) (ops.read_detail kinds.rhythm place)
-        (state chart.now records.now [])).answer ⌝ }
-    ensures* out { λ _. ⌜ out.new ≡ put 0 (numbers_of (read_into_as settings.now rhythm_width (length out.old)
+    ensures answer { result ≡ answer_code (read_into_as settings.now rhythm_width (length out.old) (ops.read_detail kinds.rhythm place)
+        (state chart.now records.now [])).answer }
+    ensures out { out.new ≡ put 0 (numbers_of (read_into_as settings.now rhythm_width (length out.old)
         (ops.read_detail kinds.rhythm place)
-        (state chart.now records.now [])).answer) out.old ⌝ }
-    ensures* leaves { λ _. ⌜ state chart.now records.now [] ≡ state chart.now records.now [] ⌝ }
-    ensures* settings { λ _. ⌜ settings.now ≡ settings.now ⌝ }
+        (state chart.now records.now [])).answer) out.old }
 {
     match rhythm_into_as(chart, settings, records, place, out.len()) {
         RhythmAnswer::Refused(r) => code(r),
@@ -596,11 +579,10 @@ pub extern "C" fn difficulty_read_rhythm(
     place: usize,
     out: &mut [f64],
 ) -> u64
-    ensures* answer { λ r. ⌜ r ≡ answer_code (read_into rhythm_width (length out.old) (ops.read_detail kinds.rhythm place)
-        (state chart.now records.now [])).answer ⌝ }
-    ensures* out { λ _. ⌜ out.new ≡ put 0 (numbers_of (read_into rhythm_width (length out.old) (ops.read_detail kinds.rhythm place)
-        (state chart.now records.now [])).answer) out.old ⌝ }
-    ensures* leaves { λ _. ⌜ state chart.now records.now [] ≡ state chart.now records.now [] ⌝ }
+    ensures answer { result ≡ answer_code (read_into rhythm_width (length out.old) (ops.read_detail kinds.rhythm place)
+        (state chart.now records.now [])).answer }
+    ensures out { out.new ≡ put 0 (numbers_of (read_into rhythm_width (length out.old) (ops.read_detail kinds.rhythm place)
+        (state chart.now records.now [])).answer) out.old }
 {
     if chart.len() < chart_fields::HEADER_SIZE {
         return code(Refusal::Header);
@@ -610,8 +592,8 @@ pub extern "C" fn difficulty_read_rhythm(
 
 // Why a figure of the second player without room is refused.
 fn refuse_sums(chart: &[u8], settings: &[u8], entries: usize) -> Refusal
-    ensures* { λ r. ⌜ Refused r ≡ second_verdict settings.now chart.now
-        (sum_verdict (under settings.now chart.now) entries true) ⌝ }
+    ensures { Refused result ≡ second_verdict settings.now chart.now
+        (sum_verdict (under settings.now chart.now) entries true) }
 {
     match chart_players::check_as(chart, settings, entries) {
         Verdict::Refused(r) => r,
@@ -630,14 +612,14 @@ fn totals_into(
     flashlight: &mut [f64],
     cramped: bool,
 ) -> TotalsAnswer
-    ensures* answer { λ r. ⌜ result (totals_answer r) chart.now [] values.now
+    ensures answer { outcome_with (totals_answer result) chart.now [] values.now
         ≡ figure_into_as settings.now kinds.totals cramped
         (scratch_of aim.old aim_no_sliders.old speed.old flashlight.old)
-        (state chart.now [] values.now) ⌝ }
-    ensures* scratch { λ _. ⌜ scratch_of aim.new aim_no_sliders.new speed.new flashlight.new
+        (state chart.now [] values.now) }
+    ensures scratch { scratch_of aim.new aim_no_sliders.new speed.new flashlight.new
         ≡ scratch_into_as settings.now kinds.totals cramped
         (scratch_of aim.old aim_no_sliders.old speed.old flashlight.old)
-        (state chart.now [] values.now) ⌝ }
+        (state chart.now [] values.now) }
 {
     if cramped {
         return TotalsAnswer::Refused(refuse_sums(
@@ -660,7 +642,7 @@ fn totals_into(
 // Writes the four totals.
 fn put_totals(out: &mut [f64], t: Skills)
     requires { totals_width ≤ length out.old }
-    ensures* { λ _. ⌜ out.new ≡ put 0 (totals_row t) out.old ⌝ }
+    ensures { out.new ≡ put 0 (totals_row t) out.old }
 {
     out[0] = t.aim;
     out[1] = t.aim_no_sliders;
@@ -680,20 +662,18 @@ pub extern "C" fn difficulty_totals_as(
     flashlight: &mut [f64],
     out: &mut [f64],
 ) -> u64
-    ensures* answer { λ r. ⌜ r
+    ensures answer { result
         ≡ answer_code (figure_into_as settings.now kinds.totals (ltb (length out.old) totals_width)
         (scratch_of aim.old aim_no_sliders.old speed.old flashlight.old)
-        (state chart.now [] values.now)).answer ⌝ }
-    ensures* scratch { λ _. ⌜ scratch_of aim.new aim_no_sliders.new speed.new flashlight.new
+        (state chart.now [] values.now)).answer }
+    ensures scratch { scratch_of aim.new aim_no_sliders.new speed.new flashlight.new
         ≡ scratch_into_as settings.now kinds.totals (ltb (length out.old) totals_width)
         (scratch_of aim.old aim_no_sliders.old speed.old flashlight.old)
-        (state chart.now [] values.now) ⌝ }
-    ensures* out { λ _. ⌜ out.new
+        (state chart.now [] values.now) }
+    ensures out { out.new
         ≡ put 0 (numbers_of (figure_into_as settings.now kinds.totals (ltb (length out.old) totals_width)
         (scratch_of aim.old aim_no_sliders.old speed.old flashlight.old)
-        (state chart.now [] values.now)).answer) out.old ⌝ }
-    ensures* leaves { λ _. ⌜ state chart.now [] values.now ≡ state chart.now [] values.now ⌝ }
-    ensures* settings { λ _. ⌜ settings.now ≡ settings.now ⌝ }
+        (state chart.now [] values.now)).answer) out.old }
 {
     match totals_into(
         chart,
@@ -724,19 +704,18 @@ pub extern "C" fn difficulty_totals(
     flashlight: &mut [f64],
     out: &mut [f64],
 ) -> u64
-    ensures* answer { λ r. ⌜ r
+    ensures answer { result
         ≡ answer_code (figure_into kinds.totals (ltb (length out.old) totals_width)
         (scratch_of aim.old aim_no_sliders.old speed.old flashlight.old)
-        (state chart.now [] values.now)).answer ⌝ }
-    ensures* scratch { λ _. ⌜ scratch_of aim.new aim_no_sliders.new speed.new flashlight.new
+        (state chart.now [] values.now)).answer }
+    ensures scratch { scratch_of aim.new aim_no_sliders.new speed.new flashlight.new
         ≡ scratch_into kinds.totals (ltb (length out.old) totals_width)
         (scratch_of aim.old aim_no_sliders.old speed.old flashlight.old)
-        (state chart.now [] values.now) ⌝ }
-    ensures* out { λ _. ⌜ out.new
+        (state chart.now [] values.now) }
+    ensures out { out.new
         ≡ put 0 (numbers_of (figure_into kinds.totals (ltb (length out.old) totals_width)
         (scratch_of aim.old aim_no_sliders.old speed.old flashlight.old)
-        (state chart.now [] values.now)).answer) out.old ⌝ }
-    ensures* leaves { λ _. ⌜ state chart.now [] values.now ≡ state chart.now [] values.now ⌝ }
+        (state chart.now [] values.now)).answer) out.old }
 {
     if chart.len() < chart_fields::HEADER_SIZE {
         return code(Refusal::Header);
@@ -765,14 +744,14 @@ fn totals_to_into(
     flashlight: &mut [f64],
     cramped: bool,
 ) -> TotalsAnswer
-    ensures* answer { λ r. ⌜ result (totals_answer r) chart.now [] values.now
+    ensures answer { outcome_with (totals_answer result) chart.now [] values.now
         ≡ figure_into_as settings.now (kinds.totals_to m) cramped
         (scratch_of aim.old aim_no_sliders.old speed.old flashlight.old)
-        (state chart.now [] values.now) ⌝ }
-    ensures* scratch { λ _. ⌜ scratch_of aim.new aim_no_sliders.new speed.new flashlight.new
+        (state chart.now [] values.now) }
+    ensures scratch { scratch_of aim.new aim_no_sliders.new speed.new flashlight.new
         ≡ scratch_into_as settings.now (kinds.totals_to m) cramped
         (scratch_of aim.old aim_no_sliders.old speed.old flashlight.old)
-        (state chart.now [] values.now) ⌝ }
+        (state chart.now [] values.now) }
 {
     if cramped {
         return TotalsAnswer::Refused(refuse_sums(
@@ -806,19 +785,17 @@ pub extern "C" fn difficulty_totals_to_as(
     flashlight: &mut [f64],
     out: &mut [f64],
 ) -> u64
-    ensures* answer { λ r. ⌜ r ≡ answer_code (figure_into_as settings.now (kinds.totals_to m) (ltb (length out.old) totals_width)
+    ensures answer { result ≡ answer_code (figure_into_as settings.now (kinds.totals_to m) (ltb (length out.old) totals_width)
         (scratch_of aim.old aim_no_sliders.old speed.old flashlight.old)
-        (state chart.now [] values.now)).answer ⌝ }
-    ensures* scratch { λ _. ⌜ scratch_of aim.new aim_no_sliders.new speed.new flashlight.new
+        (state chart.now [] values.now)).answer }
+    ensures scratch { scratch_of aim.new aim_no_sliders.new speed.new flashlight.new
         ≡ scratch_into_as settings.now (kinds.totals_to m) (ltb (length out.old) totals_width)
         (scratch_of aim.old aim_no_sliders.old speed.old flashlight.old)
-        (state chart.now [] values.now) ⌝ }
-    ensures* out { λ _. ⌜ out.new ≡ put 0 (numbers_of (figure_into_as settings.now (kinds.totals_to m) (ltb
+        (state chart.now [] values.now) }
+    ensures out { out.new ≡ put 0 (numbers_of (figure_into_as settings.now (kinds.totals_to m) (ltb
         (length out.old) totals_width)
         (scratch_of aim.old aim_no_sliders.old speed.old flashlight.old)
-        (state chart.now [] values.now)).answer) out.old ⌝ }
-    ensures* leaves { λ _. ⌜ state chart.now [] values.now ≡ state chart.now [] values.now ⌝ }
-    ensures* settings { λ _. ⌜ settings.now ≡ settings.now ⌝ }
+        (state chart.now [] values.now)).answer) out.old }
 {
     match totals_to_into(
         chart,
@@ -851,17 +828,16 @@ pub extern "C" fn difficulty_totals_to(
     flashlight: &mut [f64],
     out: &mut [f64],
 ) -> u64
-    ensures* answer { λ r. ⌜ r ≡ answer_code (figure_into (kinds.totals_to m) (ltb (length out.old) totals_width)
+    ensures answer { result ≡ answer_code (figure_into (kinds.totals_to m) (ltb (length out.old) totals_width)
         (scratch_of aim.old aim_no_sliders.old speed.old flashlight.old)
-        (state chart.now [] values.now)).answer ⌝ }
-    ensures* scratch { λ _. ⌜ scratch_of aim.new aim_no_sliders.new speed.new flashlight.new
+        (state chart.now [] values.now)).answer }
+    ensures scratch { scratch_of aim.new aim_no_sliders.new speed.new flashlight.new
         ≡ scratch_into (kinds.totals_to m) (ltb (length out.old) totals_width)
         (scratch_of aim.old aim_no_sliders.old speed.old flashlight.old)
-        (state chart.now [] values.now) ⌝ }
-    ensures* out { λ _. ⌜ out.new ≡ put 0 (numbers_of (figure_into (kinds.totals_to m) (ltb (length out.old) totals_width)
+        (state chart.now [] values.now) }
+    ensures out { out.new ≡ put 0 (numbers_of (figure_into (kinds.totals_to m) (ltb (length out.old) totals_width)
         (scratch_of aim.old aim_no_sliders.old speed.old flashlight.old)
-        (state chart.now [] values.now)).answer) out.old ⌝ }
-    ensures* leaves { λ _. ⌜ state chart.now [] values.now ≡ state chart.now [] values.now ⌝ }
+        (state chart.now [] values.now)).answer) out.old }
 {
     if chart.len() < chart_fields::HEADER_SIZE {
         return code(Refusal::Header);
@@ -892,19 +868,17 @@ pub extern "C" fn difficulty_totals_while_playing_as(
     speed: &mut [f64],
     flashlight: &mut [f64],
 ) -> u64
-    ensures* answer { λ r. ⌜ r ≡ verdict_code (verdict_as settings.now (ops.figure (kinds.playing (length list.old / totals_width)) (lengths
+    ensures answer { result ≡ verdict_code (verdict_as settings.now (ops.figure (kinds.playing (length list.old / totals_width)) (lengths
         (scratch_of aim.old aim_no_sliders.old speed.old flashlight.old)))
-        (state chart.now [] values.now)) ⌝ }
-    ensures* list { λ _. ⌜ list.new ≡ list_after (outcome_as settings.now
+        (state chart.now [] values.now)) }
+    ensures list { list.new ≡ list_after (outcome_as settings.now
         (ops.figure (kinds.playing (length list.old / totals_width)) (lengths
         (scratch_of aim.old aim_no_sliders.old speed.old flashlight.old)))
-        (state chart.now [] values.now)).answer list.old ⌝ }
-    ensures* leaves { λ _. ⌜ state chart.now [] values.now ≡ state chart.now [] values.now ⌝ }
-    ensures* scratch { λ _. ⌜ scratch_of aim.new aim_no_sliders.new speed.new flashlight.new
+        (state chart.now [] values.now)).answer list.old }
+    ensures scratch { scratch_of aim.new aim_no_sliders.new speed.new flashlight.new
         ≡ scratch_after_as settings.now (kinds.playing
         (length list.old / totals_width)) (state chart.now [] values.now)
-        (scratch_of aim.old aim_no_sliders.old speed.old flashlight.old) ⌝ }
-    ensures* settings { λ _. ⌜ settings.now ≡ settings.now ⌝ }
+        (scratch_of aim.old aim_no_sliders.old speed.old flashlight.old) }
 {
     match calls_figures::totals_while_playing_as(
         chart,
@@ -932,16 +906,15 @@ pub extern "C" fn difficulty_totals_while_playing(
     speed: &mut [f64],
     flashlight: &mut [f64],
 ) -> u64
-    ensures* answer { λ r. ⌜ r ≡ verdict_code (verdict_in (ops.figure (kinds.playing (length list.old / totals_width)) (lengths
+    ensures answer { result ≡ verdict_code (verdict_in (ops.figure (kinds.playing (length list.old / totals_width)) (lengths
         (scratch_of aim.old aim_no_sliders.old speed.old flashlight.old)))
-        (state chart.now [] values.now)) ⌝ }
-    ensures* list { λ _. ⌜ list.new ≡ list_after (outcome (ops.figure (kinds.playing (length list.old / totals_width)) (lengths
+        (state chart.now [] values.now)) }
+    ensures list { list.new ≡ list_after (outcome (ops.figure (kinds.playing (length list.old / totals_width)) (lengths
         (scratch_of aim.old aim_no_sliders.old speed.old flashlight.old)))
-        (state chart.now [] values.now)).answer list.old ⌝ }
-    ensures* leaves { λ _. ⌜ state chart.now [] values.now ≡ state chart.now [] values.now ⌝ }
-    ensures* scratch { λ _. ⌜ scratch_of aim.new aim_no_sliders.new speed.new flashlight.new
+        (state chart.now [] values.now)).answer list.old }
+    ensures scratch { scratch_of aim.new aim_no_sliders.new speed.new flashlight.new
         ≡ scratch_after (kinds.playing (length list.old / totals_width)) (state chart.now [] values.now)
-        (scratch_of aim.old aim_no_sliders.old speed.old flashlight.old) ⌝ }
+        (scratch_of aim.old aim_no_sliders.old speed.old flashlight.old) }
 {
     if chart.len() < chart_fields::HEADER_SIZE {
         return code(Refusal::Header);
@@ -969,14 +942,14 @@ fn counts_into(
     flashlight: &mut [f64],
     cramped: bool,
 ) -> CountsAnswer
-    ensures* answer { λ r. ⌜ result (counts_answer r) chart.now [] values.now
+    ensures answer { outcome_with (counts_answer result) chart.now [] values.now
         ≡ figure_into_as settings.now kinds.counts cramped
         (scratch_of aim.old aim_no_sliders.old speed.old flashlight.old)
-        (state chart.now [] values.now) ⌝ }
-    ensures* scratch { λ _. ⌜ scratch_of aim.new aim_no_sliders.new speed.new flashlight.new
+        (state chart.now [] values.now) }
+    ensures scratch { scratch_of aim.new aim_no_sliders.new speed.new flashlight.new
         ≡ scratch_into_as settings.now kinds.counts cramped
         (scratch_of aim.old aim_no_sliders.old speed.old flashlight.old)
-        (state chart.now [] values.now) ⌝ }
+        (state chart.now [] values.now) }
 {
     if cramped {
         return CountsAnswer::Refused(refuse_sums(
@@ -999,7 +972,7 @@ fn counts_into(
 // Writes the seven counts.
 fn put_counts(out: &mut [f64], c: ObjectCounts)
     requires { counts_width ≤ length out.old }
-    ensures* { λ _. ⌜ out.new ≡ put 0 (counts_row c) out.old ⌝ }
+    ensures { out.new ≡ put 0 (counts_row c) out.old }
 {
     out[0] = c.aim_difficult_strain_count;
     out[1] = c.aim_no_sliders_difficult_strain_count;
@@ -1022,18 +995,16 @@ pub extern "C" fn difficulty_counts_as(
     flashlight: &mut [f64],
     out: &mut [f64],
 ) -> u64
-    ensures* answer { λ r. ⌜ r ≡ answer_code (figure_into_as settings.now kinds.counts (ltb (length out.old) counts_width)
+    ensures answer { result ≡ answer_code (figure_into_as settings.now kinds.counts (ltb (length out.old) counts_width)
         (scratch_of aim.old aim_no_sliders.old speed.old flashlight.old)
-        (state chart.now [] values.now)).answer ⌝ }
-    ensures* scratch { λ _. ⌜ scratch_of aim.new aim_no_sliders.new speed.new flashlight.new
+        (state chart.now [] values.now)).answer }
+    ensures scratch { scratch_of aim.new aim_no_sliders.new speed.new flashlight.new
         ≡ scratch_into_as settings.now kinds.counts (ltb (length out.old) counts_width)
         (scratch_of aim.old aim_no_sliders.old speed.old flashlight.old)
-        (state chart.now [] values.now) ⌝ }
-    ensures* out { λ _. ⌜ out.new ≡ put 0 (numbers_of (figure_into_as settings.now kinds.counts (ltb (length out.old) counts_width)
+        (state chart.now [] values.now) }
+    ensures out { out.new ≡ put 0 (numbers_of (figure_into_as settings.now kinds.counts (ltb (length out.old) counts_width)
         (scratch_of aim.old aim_no_sliders.old speed.old flashlight.old)
-        (state chart.now [] values.now)).answer) out.old ⌝ }
-    ensures* leaves { λ _. ⌜ state chart.now [] values.now ≡ state chart.now [] values.now ⌝ }
-    ensures* settings { λ _. ⌜ settings.now ≡ settings.now ⌝ }
+        (state chart.now [] values.now)).answer) out.old }
 {
     match counts_into(
         chart,
@@ -1064,17 +1035,16 @@ pub extern "C" fn difficulty_counts(
     flashlight: &mut [f64],
     out: &mut [f64],
 ) -> u64
-    ensures* answer { λ r. ⌜ r ≡ answer_code (figure_into kinds.counts (ltb (length out.old) counts_width)
+    ensures answer { result ≡ answer_code (figure_into kinds.counts (ltb (length out.old) counts_width)
         (scratch_of aim.old aim_no_sliders.old speed.old flashlight.old)
-        (state chart.now [] values.now)).answer ⌝ }
-    ensures* scratch { λ _. ⌜ scratch_of aim.new aim_no_sliders.new speed.new flashlight.new
+        (state chart.now [] values.now)).answer }
+    ensures scratch { scratch_of aim.new aim_no_sliders.new speed.new flashlight.new
         ≡ scratch_into kinds.counts (ltb (length out.old) counts_width)
         (scratch_of aim.old aim_no_sliders.old speed.old flashlight.old)
-        (state chart.now [] values.now) ⌝ }
-    ensures* out { λ _. ⌜ out.new ≡ put 0 (numbers_of (figure_into kinds.counts (ltb (length out.old) counts_width)
+        (state chart.now [] values.now) }
+    ensures out { out.new ≡ put 0 (numbers_of (figure_into kinds.counts (ltb (length out.old) counts_width)
         (scratch_of aim.old aim_no_sliders.old speed.old flashlight.old)
-        (state chart.now [] values.now)).answer) out.old ⌝ }
-    ensures* leaves { λ _. ⌜ state chart.now [] values.now ≡ state chart.now [] values.now ⌝ }
+        (state chart.now [] values.now)).answer) out.old }
 {
     if chart.len() < chart_fields::HEADER_SIZE {
         return code(Refusal::Header);
@@ -1093,7 +1063,7 @@ pub extern "C" fn difficulty_counts(
 
 // Number i of those that come with ratings; a NaN where there are fewer.
 fn number_at(numbers: &[f64], i: usize) -> f64
-    ensures* { λ r. ⌜ r ≡ get_or numbers.now i nan ⌝ }
+    ensures { result ≡ get_or numbers.now i nan }
 {
     if i < numbers.len() {
         return numbers[i];
@@ -1103,7 +1073,7 @@ fn number_at(numbers: &[f64], i: usize) -> f64
 
 // What comes with ratings.
 fn asked_of(mods: u32, given: u32, numbers: &[f64]) -> Asked
-    ensures* { λ r. ⌜ r ≡ asked_of mods given numbers.now ⌝ }
+    ensures { result ≡ asked_of mods given numbers.now }
 {
     let approach_rate = number_at(numbers, 0);
     let overall_difficulty = number_at(numbers, 1);
@@ -1121,7 +1091,7 @@ fn asked_of(mods: u32, given: u32, numbers: &[f64]) -> Asked
 
 // Whether there is no room for the ratings, or too few numbers.
 fn ratings_cramped(room: usize, numbers: usize) -> bool
-    ensures* { λ r. ⌜ r ≡ ratings_cramped room numbers ⌝ }
+    ensures { result ≡ ratings_cramped room numbers }
 {
     (room < RATINGS_WIDTH) | (numbers < NUMBERS_WIDTH)
 }
@@ -1138,14 +1108,14 @@ fn ratings_into(
     flashlight: &mut [f64],
     cramped: bool,
 ) -> RatingsAnswer
-    ensures* answer { λ r. ⌜ result (ratings_answer r) chart.now [] values.now
+    ensures answer { outcome_with (ratings_answer result) chart.now [] values.now
         ≡ figure_into_as settings.now (kinds.ratings asked) cramped
         (scratch_of aim.old aim_no_sliders.old speed.old flashlight.old)
-        (state chart.now [] values.now) ⌝ }
-    ensures* scratch { λ _. ⌜ scratch_of aim.new aim_no_sliders.new speed.new flashlight.new
+        (state chart.now [] values.now) }
+    ensures scratch { scratch_of aim.new aim_no_sliders.new speed.new flashlight.new
         ≡ scratch_into_as settings.now (kinds.ratings asked) cramped
         (scratch_of aim.old aim_no_sliders.old speed.old flashlight.old)
-        (state chart.now [] values.now) ⌝ }
+        (state chart.now [] values.now) }
 {
     if cramped {
         return RatingsAnswer::Refused(refuse_sums(
@@ -1169,7 +1139,7 @@ fn ratings_into(
 // Writes the three ratings and the stars.
 fn put_ratings(out: &mut [f64], r: Ratings)
     requires { ratings_width ≤ length out.old }
-    ensures* { λ _. ⌜ out.new ≡ put 0 (ratings_row r) out.old ⌝ }
+    ensures { out.new ≡ put 0 (ratings_row r) out.old }
 {
     out[0] = r.aim;
     out[1] = r.speed;
@@ -1193,22 +1163,19 @@ pub extern "C" fn difficulty_ratings_as(
     flashlight: &mut [f64],
     out: &mut [f64],
 ) -> u64
-    ensures* answer { λ r. ⌜ r ≡ answer_code (figure_into_as settings.now (kinds.ratings (asked_of mods given numbers.now))
+    ensures answer { result ≡ answer_code (figure_into_as settings.now (kinds.ratings (asked_of mods given numbers.now))
         (ratings_cramped (length out.old) (length numbers.now))
         (scratch_of aim.old aim_no_sliders.old speed.old flashlight.old)
-        (state chart.now [] values.now)).answer ⌝ }
-    ensures* scratch { λ _. ⌜ scratch_of aim.new aim_no_sliders.new speed.new flashlight.new
+        (state chart.now [] values.now)).answer }
+    ensures scratch { scratch_of aim.new aim_no_sliders.new speed.new flashlight.new
         ≡ scratch_into_as settings.now (kinds.ratings (asked_of mods given numbers.now))
         (ratings_cramped (length out.old) (length numbers.now))
         (scratch_of aim.old aim_no_sliders.old speed.old flashlight.old)
-        (state chart.now [] values.now) ⌝ }
-    ensures* out { λ _. ⌜ out.new ≡ put 0 (numbers_of (figure_into_as settings.now (kinds.ratings (asked_of mods given numbers.now))
+        (state chart.now [] values.now) }
+    ensures out { out.new ≡ put 0 (numbers_of (figure_into_as settings.now (kinds.ratings (asked_of mods given numbers.now))
         (ratings_cramped (length out.old) (length numbers.now))
         (scratch_of aim.old aim_no_sliders.old speed.old flashlight.old)
-        (state chart.now [] values.now)).answer) out.old ⌝ }
-    ensures* leaves { λ _. ⌜ state chart.now [] values.now ≡ state chart.now [] values.now ⌝ }
-    ensures* numbers { λ _. ⌜ numbers.now ≡ numbers.now ⌝ }
-    ensures* settings { λ _. ⌜ settings.now ≡ settings.now ⌝ }
+        (state chart.now [] values.now)).answer) out.old }
 {
     let cramped = ratings_cramped(out.len(), numbers.len());
     let asked = asked_of(mods, given, numbers);
@@ -1245,20 +1212,18 @@ pub extern "C" fn difficulty_ratings(
     flashlight: &mut [f64],
     out: &mut [f64],
 ) -> u64
-    ensures* answer { λ r. ⌜ r ≡ answer_code (figure_into (kinds.ratings (asked_of mods given numbers.now))
+    ensures answer { result ≡ answer_code (figure_into (kinds.ratings (asked_of mods given numbers.now))
         (ratings_cramped (length out.old) (length numbers.now))
         (scratch_of aim.old aim_no_sliders.old speed.old flashlight.old)
-        (state chart.now [] values.now)).answer ⌝ }
-    ensures* scratch { λ _. ⌜ scratch_of aim.new aim_no_sliders.new speed.new flashlight.new
+        (state chart.now [] values.now)).answer }
+    ensures scratch { scratch_of aim.new aim_no_sliders.new speed.new flashlight.new
         ≡ scratch_into (kinds.ratings (asked_of mods given numbers.now)) (ratings_cramped (length out.old) (length numbers.now))
         (scratch_of aim.old aim_no_sliders.old speed.old flashlight.old)
-        (state chart.now [] values.now) ⌝ }
-    ensures* out { λ _. ⌜ out.new ≡ put 0 (numbers_of (figure_into (kinds.ratings (asked_of mods given numbers.now))
+        (state chart.now [] values.now) }
+    ensures out { out.new ≡ put 0 (numbers_of (figure_into (kinds.ratings (asked_of mods given numbers.now))
         (ratings_cramped (length out.old) (length numbers.now))
         (scratch_of aim.old aim_no_sliders.old speed.old flashlight.old)
-        (state chart.now [] values.now)).answer) out.old ⌝ }
-    ensures* leaves { λ _. ⌜ state chart.now [] values.now ≡ state chart.now [] values.now ⌝ }
-    ensures* numbers { λ _. ⌜ numbers.now ≡ numbers.now ⌝ }
+        (state chart.now [] values.now)).answer) out.old }
 {
     if chart.len() < chart_fields::HEADER_SIZE {
         return code(Refusal::Header);
@@ -1292,13 +1257,13 @@ fn join_into(
     flashlight: &mut [f64],
     cramped: bool,
 ) -> Verdict
-    ensures* answer { λ r. ⌜ r ≡ rank_verdict_into asked cramped pack.now (buffers list.old
+    ensures answer { result ≡ rank_verdict_into asked cramped pack.now (buffers list.old
         (tables records.old values.old)
-        (scratch_of aim.old aim_no_sliders.old speed.old flashlight.old)) ⌝ }
-    ensures* leaves { λ _. ⌜ buffers list.new (tables records.new values.new)
+        (scratch_of aim.old aim_no_sliders.old speed.old flashlight.old)) }
+    ensures leaves { buffers list.new (tables records.new values.new)
         (scratch_of aim.new aim_no_sliders.new speed.new flashlight.new)
         ≡ rank_into asked cramped pack.now (buffers list.old (tables records.old values.old)
-        (scratch_of aim.old aim_no_sliders.old speed.old flashlight.old)) ⌝ }
+        (scratch_of aim.old aim_no_sliders.old speed.old flashlight.old)) }
 {
     if cramped & (0 < list.len()) {
         return pack::check(pack, list, asked, records.len(), values.len(), 0, 0, 0, 0);
@@ -1334,16 +1299,14 @@ pub extern "C" fn difficulty_join(
     speed: &mut [f64],
     flashlight: &mut [f64],
 ) -> u64
-    ensures* answer { λ r. ⌜ r ≡ verdict_code (rank_verdict_into (asked_of mods given numbers.now) (ltb (length numbers.now) numbers_width)
+    ensures answer { result ≡ verdict_code (rank_verdict_into (asked_of mods given numbers.now) (ltb (length numbers.now) numbers_width)
         pack.now (buffers list.old (tables records.old values.old)
-        (scratch_of aim.old aim_no_sliders.old speed.old flashlight.old))) ⌝ }
-    ensures* leaves { λ _. ⌜ buffers list.new (tables records.new values.new)
+        (scratch_of aim.old aim_no_sliders.old speed.old flashlight.old))) }
+    ensures leaves { buffers list.new (tables records.new values.new)
         (scratch_of aim.new aim_no_sliders.new speed.new flashlight.new)
         ≡ rank_into (asked_of mods given numbers.now) (ltb (length numbers.now) numbers_width)
         pack.now (buffers list.old (tables records.old values.old)
-        (scratch_of aim.old aim_no_sliders.old speed.old flashlight.old)) ⌝ }
-    ensures* pack { λ _. ⌜ pack.now ≡ pack.now ⌝ }
-    ensures* numbers { λ _. ⌜ numbers.now ≡ numbers.now ⌝ }
+        (scratch_of aim.old aim_no_sliders.old speed.old flashlight.old)) }
 {
     let asked = asked_of(mods, given, numbers);
     match join_into(
@@ -1379,16 +1342,14 @@ pub extern "C" fn difficulty_rank(
     speed: &mut [f64],
     flashlight: &mut [f64],
 ) -> u64
-    ensures* answer { λ r. ⌜ r ≡ verdict_code (rank_verdict_into (asked_of mods given numbers.now) (ltb (length numbers.now) numbers_width)
+    ensures answer { result ≡ verdict_code (rank_verdict_into (asked_of mods given numbers.now) (ltb (length numbers.now) numbers_width)
         pack.now (buffers list.old (tables records.old values.old)
-        (scratch_of aim.old aim_no_sliders.old speed.old flashlight.old))) ⌝ }
-    ensures* leaves { λ _. ⌜ buffers list.new (tables records.new values.new)
+        (scratch_of aim.old aim_no_sliders.old speed.old flashlight.old))) }
+    ensures leaves { buffers list.new (tables records.new values.new)
         (scratch_of aim.new aim_no_sliders.new speed.new flashlight.new)
         ≡ rank_into (asked_of mods given numbers.now) (ltb (length numbers.now) numbers_width)
         pack.now (buffers list.old (tables records.old values.old)
-        (scratch_of aim.old aim_no_sliders.old speed.old flashlight.old)) ⌝ }
-    ensures* pack { λ _. ⌜ pack.now ≡ pack.now ⌝ }
-    ensures* numbers { λ _. ⌜ numbers.now ≡ numbers.now ⌝ }
+        (scratch_of aim.old aim_no_sliders.old speed.old flashlight.old)) }
 {
     difficulty_join(
         pack,

@@ -1,6 +1,8 @@
 // Lists aim with its parts for charts. Standard input has for each chart its length (u32, little-endian) and its bytes. Of a chart that is opened the
 // number of objects is printed, and for each place from 1 on what the reading answers: aim's value, both velocities, the five bonuses and the rule, and the
 // same nine without sliders; of any other chart the refusal.
+#![tactic(auto)]
+
 ghost use Rattle.std.specs.Prelude.{◌≤◌, length};
 
 use calls_readings::AimAnswer;

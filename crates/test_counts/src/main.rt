@@ -1,5 +1,7 @@
 // Lists the counts of charts. Standard input has for each chart its length (u32, little-endian) and its bytes. Of a chart that is opened the line of
 // counts is printed, of any other the refusal. Values come from the chart's own records.
+#![tactic(auto)]
+
 ghost use Rattle.std.specs.Prelude.{◌*◌, ◌≤◌, length};
 ghost use Rattle.osu_object.specs.Osu.{Ready};
 ghost use Rattle.skills.specs.Chart.{Readable};

@@ -1,6 +1,8 @@
 // Lists the values that the evaluators make from record tables which were made elsewhere. Standard input has for each chart its length (u32,
 // little-endian), its bytes, and sixteen f64 for each place from 0 on. The number of objects is printed, and for each place from 1 on its
 // five values as bits; of a chart that is not opened the refusal.
+#![tactic(auto)]
+
 ghost use Rattle.std.specs.Prelude.{◌≤◌, length};
 
 use chart_opening::Verdict;

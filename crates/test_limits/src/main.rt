@@ -1,4 +1,6 @@
 // Charts at the limit of N, built here: 16,384 circles open, no object can be put in with them and any taken out; 16,385 are refused by condition 1.
+#![tactic(auto)]
+
 ghost use Rattle.std.specs.Prelude.{◌≡◌, ◌≤◌, length};
 
 use chart_opening::Verdict;

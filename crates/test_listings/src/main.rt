@@ -1,4 +1,5 @@
 // Lists charts as the lister does. Standard input has for each chart its length (u32, little-endian) and its bytes.
+#![tactic(auto)]
 
 // Charts that are read at most.
 const MOST: usize = 65536;

@@ -1,5 +1,6 @@
 // Runs every function on numbers over vectors. Standard input has 25 bytes for each: a letter that names the function and three
 // little-endian words, the bits of its arguments. For each one line is written: the answer's bits in hex; an i32 goes as the f64 of its number.
+#![tactic(auto)]
 
 ghost use Rattle.std.specs.Prelude.{◌*◌, ◌≤◌, ◌≡◌, length};
 

@@ -1,5 +1,6 @@
 // Works opacities out. Standard input has for each the object's start, the time, the preempt and fade-in times (f64) and whether it is hidden (u64, 0 or 1),
 // little-endian. The opacity is written as bits.
+#![tactic(auto)]
 
 // The bytes of a question, and questions that are answered at most.
 const SIZE: usize = 40;

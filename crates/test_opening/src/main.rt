@@ -1,5 +1,7 @@
 // Reads a pack of charts from standard input, each after its length as a little-endian u32, and prints for each what opening answers:
 // `opened`, or `refused` with the number of the condition and the place. The tables count as long enough.
+#![tactic(auto)]
+
 use chart_opening::Verdict;
 
 // Charts that are read at most.

@@ -2,6 +2,8 @@
 // N - 1 records are lent to them as a slice. Standard input has for each chart its length (u32, little-endian) and its bytes. Of a chart
 // that is opened the number of objects is printed, and for each place from 1 on its five values as bits; of any other, and of one with more
 // than 65 objects, the refusal.
+#![tactic(auto)]
+
 ghost use Rattle.std.specs.Prelude.{◌≡◌, ◌≤◌, ◌<◌, length, take};
 ghost use Rattle.osu_object.specs.Osu.{Ready, object_of};
 ghost use Rattle.eval_values.specs.Values.{row_of, values_of};

@@ -3,6 +3,8 @@
 //     (u64), the lengths of the record and the value table, four lengths of scratch
 //   2 what an entry of both tables holds: its place
 // Whole numbers without a size are u32, all is little-endian. Every answer is a line. The tables stay from request to request of a pack.
+#![tactic(auto)]
+
 ghost use Rattle.std.specs.Prelude.{◌+◌, ◌*◌, ◌≤◌, length};
 
 use chart_opening::Verdict;

@@ -1,5 +1,7 @@
 // Looks positions up on paths. Standard input has for each lookup the progress (f64), the stated length (f64), the number of points (u32, 1 to 64) and the
 // points (f32 x, f32 y, f64 length so far), little-endian. The position is written as bits, x and y.
+#![tactic(auto)]
+
 ghost use Rattle.std.specs.Prelude.{◌+◌, ◌*◌, ◌<◌, ◌≤◌, length};
 
 use chart_fields::Layout;

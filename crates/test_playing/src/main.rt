@@ -1,6 +1,8 @@
 // Lists the totals of charts while they are played. Standard input has for each chart its length (u32, little-endian) and its bytes. Of a chart that is
 // opened the number of objects is printed, for each m from 0 to that number the totals (aim, aim without sliders, speed, flashlight) reached after m objects,
 // and those after half of the objects, worked out by themselves; of any other the refusal. Values come from the chart's own records.
+#![tactic(auto)]
+
 ghost use Rattle.std.specs.Prelude.{◌*◌, ◌+◌, ◌≤◌, length};
 ghost use Rattle.osu_object.specs.Osu.{Ready};
 ghost use Rattle.skills.specs.Chart.{Readable};

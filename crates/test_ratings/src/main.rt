@@ -1,6 +1,8 @@
 // Works ratings out, and what they are made of. Standard input has for each question its kind, the number of objects,
 // the word of mods and a word whose bits 0 and 1 say
 // whether attraction strength and start scale are given (u32), then nine numbers (f64), little-endian. The answers are written as bits.
+#![tactic(auto)]
+
 ghost use Rattle.std.specs.Prelude.{◌<◌};
 
 use skills::Skills;

@@ -1,5 +1,7 @@
 // Prints the records of charts. Standard input has for each chart its length (u32, little-endian) and its bytes. Of a chart that is
 // opened the number of objects is printed, and for each place from 1 on the fields of its record as bits; of any other the refusal.
+#![tactic(auto)]
+
 ghost use Rattle.std.specs.Prelude.{◌*◌, ◌≤◌, length};
 
 use chart_opening::Verdict;

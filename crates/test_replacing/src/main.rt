@@ -1,6 +1,8 @@
 // Replays replacements on stored charts. Standard input has for each chart its length (u32), its bytes and the number of calls (u32), and
 // for each call the place (u64), the entries of the shorter table (u32), the object's length (u32) and its bytes. For each call `accepted` or
 // `refused` with number and place is printed, and after the last the Adler-32 checksum of the chart's bytes. All numbers are little-endian.
+#![tactic(auto)]
+
 ghost use Rattle.std.specs.Prelude.{◌<◌};
 
 use chart_opening::Verdict;

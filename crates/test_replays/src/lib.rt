@@ -20,6 +20,8 @@
 // Other calls are the first player's. Then come the length of the buffer that is lent at the end, and the largest N on the way. Places of calls are u64, all
 // else u32, tables and scratch are counted in numbers, all is little-endian. Every answer is a line. A script ends with the lines of 6, and whether entry 0 of
 // each table and those behind the largest N hold what they held.
+#![tactic(auto)]
+
 use calls_readings::{AimAnswer, RecordAnswer, RhythmAnswer, ValuesAnswer};
 use chart_opening::Verdict;
 

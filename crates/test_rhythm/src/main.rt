@@ -1,6 +1,8 @@
 // Lists the rhythm values of charts with their comparisons. Standard input has for each chart its length (u32, little-endian) and its bytes. Of a
 // chart that is opened the number of objects is printed, for each place from 1 on what the reading answers, the rhythm value as bits and how often an
 // island was compared, and the largest of these counts; of any other the refusal.
+#![tactic(auto)]
+
 ghost use Rattle.std.specs.Prelude.{◌≤◌, length};
 
 use calls_readings::RhythmAnswer;

@@ -1,6 +1,8 @@
 // Lists the strains of charts. Standard input has for each chart its length (u32, little-endian) and its bytes. Of a chart that is opened the
 // number of objects is printed, for each place from 1 on its strains (aim, aim without sliders, speed, flashlight), and the totals; of any
 // other the refusal. Values come from the chart's own records.
+#![tactic(auto)]
+
 ghost use Rattle.std.specs.Prelude.{◌*◌, ◌≤◌, length};
 ghost use Rattle.osu_object.specs.Osu.{Ready};
 ghost use Rattle.skills.specs.Chart.{Readable};

@@ -1,4 +1,6 @@
 // Prints the table of Two: forty lines, each j in decimal, a space and T(j) as sixteen hex digits. The entries are worked out, not read from the constant.
+#![tactic(auto)]
+
 ghost use Rattle.print_text.specs.Buffer.{Puts};
 ghost use Rattle.two_table.specs.Lines.{root_text, table_text};
 

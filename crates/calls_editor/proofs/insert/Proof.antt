@@ -4,7 +4,7 @@ use Rattle.calls_editor.proofs.Outcomes.{insert_refused, insert_accepted}
 use Rattle.calls_editor.proofs.Edits.{chart_after, chart_kept}
 use Rattle.calls_editor.proofs.Second.{inserted_fits, inserted_fits_second, insert_both_is, insert_both_left}
 use Rattle.calls.specs.Calls as answers
-use Rattle.calls.specs.Calls.{first_moved, inserted_records, inserted_values, refused, result, edit_records, edit_values}
+use Rattle.calls.specs.Calls.{first_moved, inserted_records, inserted_values, refused, outcome_with, edit_records, edit_values}
 use Rattle.calls.proofs.Moving.{inserted_more, removed_more}
 use Rattle.chart_inserting.specs.Accepted.{inserted, removed}
 use Rattle.chart_replacing.specs.Accepted.{taken}
@@ -46,7 +46,7 @@ same_length : tie.Need-same-length
 same_length c = search rules
 
 returns : tie.Need-returns
-returns c = let a = c.before.before.before.before.before.before.before.before.before.before.before.before.args in let v = ap (λ (n : ℕ). insert_verdict a.chart.now a.place a.object.now n) (sym c.before.before.before.before.before.before.entries-in.ensures) ∙ (sym c.before.before.before.before.before.insert.ensures.0 ∙ c.before.r.given.1) in let q = chart_kept _ _ _ _ c.before.before.before.before.before.insert.ensures.1 c.before.r.given.1 in ((λ i. result (refused c.before.r.given.0.0) (q i) a.records.now a.values.now) ∙ sym (insert_refused a.chart.now a.records.now a.values.now a.place a.object.now _ v), refl)
+returns c = let a = c.before.before.before.before.before.before.before.before.before.before.before.before.args in let v = ap (λ (n : ℕ). insert_verdict a.chart.now a.place a.object.now n) (sym c.before.before.before.before.before.before.entries-in.ensures) ∙ (sym c.before.before.before.before.before.insert.ensures.0 ∙ c.before.r.given.1) in let q = chart_kept _ _ _ _ c.before.before.before.before.before.insert.ensures.1 c.before.r.given.1 in ((λ i. outcome_with (refused c.before.r.given.0.0) (q i) a.records.now a.values.now) ∙ sym (insert_refused a.chart.now a.records.now a.values.now a.place a.object.now _ v), refl)
 
 same-length-2 : tie.Need-same-length-2
 same-length-2 c = search rules
@@ -58,7 +58,7 @@ same-length-4 : tie.Need-same-length-4
 same-length-4 c = search rules
 
 returns-2 : tie.Need-returns-2
-returns-2 c = let a = c.before.before.before.before.before.before.before.before.before.before.before.before.before.before.before.before.before.before.before.before.before.args in let v = ap (λ (n : ℕ). insert_verdict a.chart.now a.place a.object.now n) (sym c.before.before.before.before.before.before.before.before.before.before.before.before.before.before.before.entries-in.ensures) ∙ (sym c.before.before.before.before.before.before.before.before.before.before.before.before.before.before.insert.ensures.0 ∙ c.before.before.before.before.before.before.before.before.before.before.enum_told.given.1) in let q = chart_after _ _ _ _ c.before.before.before.before.before.before.before.before.before.before.before.before.before.before.insert.ensures.1 c.before.before.before.before.before.before.before.before.before.before.enum_told.given.1 in let n = (ap (λ (b : List ℕ). (layout_of b).n - 1) q ∙ count_less (inserted_more a.chart.now a.place a.object.now (inserted a.chart.now a.place a.object.now _ v)).counts) in let s = c.before.before.before.before.before.before.before.before.settings-at.ensures ∙ ap settings_of q in let r = c.before.before.before.before.insert-rows.ensures.0 ∙ (λ i. edit_records (s i) (q i) a.place (inserted_records a.place) (rows_up record_width (first_moved a.place) (n i) a.records.now)) in let w = c.before.before.before.before.insert-rows.ensures.1 ∙ (λ i. edit_values (s i) (q i) a.place (inserted_values a.place) (r i) (rows_up value_width (first_moved a.place) (n i) a.values.now)) in ((λ i. result answers.inserted (q i) (r i) (w i)) ∙ sym (insert_accepted a.chart.now a.records.now a.values.now a.place a.object.now v), refl)
+returns-2 c = let a = c.before.before.before.before.before.before.before.before.before.before.before.before.before.before.before.before.before.before.before.before.before.args in let v = ap (λ (n : ℕ). insert_verdict a.chart.now a.place a.object.now n) (sym c.before.before.before.before.before.before.before.before.before.before.before.before.before.before.before.entries-in.ensures) ∙ (sym c.before.before.before.before.before.before.before.before.before.before.before.before.before.before.insert.ensures.0 ∙ c.before.before.before.before.before.before.before.before.before.before.enum_told.given.1) in let q = chart_after _ _ _ _ c.before.before.before.before.before.before.before.before.before.before.before.before.before.before.insert.ensures.1 c.before.before.before.before.before.before.before.before.before.before.enum_told.given.1 in let n = (ap (λ (b : List ℕ). (layout_of b).n - 1) q ∙ count_less (inserted_more a.chart.now a.place a.object.now (inserted a.chart.now a.place a.object.now _ v)).counts) in let s = c.before.before.before.before.before.before.before.before.settings-at.ensures ∙ ap settings_of q in let r = c.before.before.before.before.insert-rows.ensures.0 ∙ (λ i. edit_records (s i) (q i) a.place (inserted_records a.place) (rows_up record_width (first_moved a.place) (n i) a.records.now)) in let w = c.before.before.before.before.insert-rows.ensures.1 ∙ (λ i. edit_values (s i) (q i) a.place (inserted_values a.place) (r i) (rows_up value_width (first_moved a.place) (n i) a.values.now)) in ((λ i. outcome_with answers.inserted (q i) (r i) (w i)) ∙ sym (insert_accepted a.chart.now a.records.now a.values.now a.place a.object.now v), refl)
 
 pub insert_spec : {M : Type 1} → statement M
 insert_spec =

@@ -11,7 +11,7 @@ use Rattle.calls_editor.proofs.Outcomes.{insert_refused, insert_accepted}
 use Rattle.calls_editor.proofs.Edits.{chart_after, chart_kept}
 use Rattle.calls_editor.proofs.Second.{inserted_fits, inserted_fits_second, insert_both_is, insert_both_left}
 use Rattle.calls.specs.Calls as answers
-use Rattle.calls.specs.Calls.{first_moved, inserted_records, inserted_values, refused, result, edit_records, edit_values}
+use Rattle.calls.specs.Calls.{first_moved, inserted_records, inserted_values, refused, outcome_with, edit_records, edit_values}
 use Rattle.calls.proofs.Moving.{inserted_more, removed_more}
 use Rattle.chart_inserting.specs.Accepted.{inserted, removed}
 use Rattle.chart_replacing.specs.Accepted.{taken}

@@ -11,7 +11,7 @@ use Rattle.calls_editor.proofs.Outcomes.{remove_refused, remove_accepted}
 use Rattle.calls_editor.proofs.Edits.{chart_after, chart_kept}
 use Rattle.calls_editor.proofs.Second.{removed_fits, removed_fits_second, remove_both_is, remove_both_left}
 use Rattle.calls.specs.Calls as answers
-use Rattle.calls.specs.Calls.{first_moved, removed_records, removed_values, refused, result, edit_records, edit_values}
+use Rattle.calls.specs.Calls.{first_moved, removed_records, removed_values, refused, outcome_with, edit_records, edit_values}
 use Rattle.calls.proofs.Moving.{inserted_more, removed_more}
 use Rattle.chart_inserting.specs.Accepted.{inserted, removed}
 use Rattle.chart_replacing.specs.Accepted.{taken}

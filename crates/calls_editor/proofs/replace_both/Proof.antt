@@ -10,7 +10,7 @@ use Rattle.calls_editor.proofs.Outcomes.{replace_refused, replace_accepted}
 use Rattle.calls_editor.proofs.Edits.{chart_after, chart_kept}
 use Rattle.calls_editor.proofs.Second.{replaced_fits, replaced_fits_second, replace_both_is, replace_both_left}
 use Rattle.calls.specs.Calls as answers
-use Rattle.calls.specs.Calls.{first_moved, replaced_records, replaced_values, refused, result, edit_records, edit_values}
+use Rattle.calls.specs.Calls.{first_moved, replaced_records, replaced_values, refused, outcome_with, edit_records, edit_values}
 use Rattle.calls.proofs.Moving.{inserted_more, removed_more}
 use Rattle.chart_inserting.specs.Accepted.{inserted, removed}
 use Rattle.chart_replacing.specs.Accepted.{taken}

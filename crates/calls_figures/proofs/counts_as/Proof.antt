@@ -10,7 +10,7 @@ use Rattle.skills_counts.specs.Chart as Chart
 use Rattle.skills_counts.specs.declared.ObjectCounts.{ObjectCounts}
 use Rattle.calls.specs.Afresh.{counts, counts_are, counts_of, figure_of}
 use Rattle.calls.specs.Conditions.{lengths, asked_conditions}
-use Rattle.calls.specs.Calls.{figure_is, result}
+use Rattle.calls.specs.Calls.{figure_is, outcome_with}
 use Rattle.calls_figures.specs.Answers.{scratch_of}
 use Rattle.calls_figures.proofs.Outcomes.{sums, sized, refused_by_sums, worked_out}
 use borrow.Author.Rules.{rules}
@@ -68,7 +68,7 @@ returns-2 c =
     (sym c.before.before.before.before.before.before.before.before.before.before.before.before.before.before.before.before.check-lent.ensures ∙ c.before.before.before.before.before.before.before.before.before.before.before.before.before.before.enum_told.given.1) refl in
     let t = c.before.before.before.before.before.before.before.before.Counts-of.ensures in
     let r = t.0 ∙ ap (λ (s : Settings). Chart.counts_of a.chart.now (layout_of a.chart.now) s.clock_rate a.values.now) c.before.before.before.before.before.before.before.before.before.before.before.before.before.settings-at.ensures in
-    (ap (λ (y : ObjectCounts). result (figure_is (counts_are y)) a.chart.now [] a.values.now) r ∙ sym h.0, (t.1 ∙ sym h.1, refl))
+    (ap (λ (y : ObjectCounts). outcome_with (figure_is (counts_are y)) a.chart.now [] a.values.now) r ∙ sym h.0, (t.1 ∙ sym h.1, refl))
 
 pub counts_as_spec : {M : Type 1} → statement M
 counts_as_spec =

@@ -13,7 +13,7 @@ use Rattle.skills_stars.specs.Stars.{ratings_of}
 use Rattle.skills_stars.specs.declared.Ratings.{Ratings}
 use Rattle.calls.specs.Afresh.{ratings, ratings_are, totals_of, figure_of, count}
 use Rattle.calls.specs.Conditions.{lengths}
-use Rattle.calls.specs.Calls.{figure_is, result}
+use Rattle.calls.specs.Calls.{figure_is, outcome_with}
 use Rattle.calls_figures.specs.Answers.{scratch_of}
 use Rattle.calls_figures.proofs.Outcomes.{sums, sized, counted, not_finite, all_finite, refused_by_sums, refused_as_asked, worked_out}
 use borrow.Author.Rules.{rules}
@@ -90,7 +90,7 @@ returns-3 c =
     let t = c.before.before.before.before.before.before.before.before.before.totals-of.ensures in
     let u = t.0 ∙ ap (λ (s : Settings). Chart.totals_of a.chart.now (layout_of a.chart.now) s.clock_rate a.values.now) c.before.before.before.before.before.before.before.before.before.before.before.before.before.before.settings-at.ensures in
     let r = c.rate.ensures ∙ ap (λ (x : Skills). ratings_of x (count a.chart.now) a.asked) u in
-    (ap (λ (y : Ratings). result (figure_is (ratings_are y)) a.chart.now [] a.values.now) r ∙ sym h.0, (t.1 ∙ sym h.1, refl))
+    (ap (λ (y : Ratings). outcome_with (figure_is (ratings_are y)) a.chart.now [] a.values.now) r ∙ sym h.0, (t.1 ∙ sym h.1, refl))
 
 pub ratings_as_spec : {M : Type 1} → statement M
 ratings_as_spec =

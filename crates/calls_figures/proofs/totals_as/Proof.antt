@@ -10,7 +10,7 @@ use Rattle.skills.specs.Chart as Chart
 use Rattle.skills.specs.declared.Skills.{Skills}
 use Rattle.calls.specs.Afresh.{totals, totals_are, totals_of, figure_of}
 use Rattle.calls.specs.Conditions.{lengths, asked_conditions}
-use Rattle.calls.specs.Calls.{figure_is, result}
+use Rattle.calls.specs.Calls.{figure_is, outcome_with}
 use Rattle.calls_figures.specs.Answers.{scratch_of}
 use Rattle.calls_figures.proofs.Outcomes.{sums, sized, refused_by_sums, worked_out}
 use borrow.Author.Rules.{rules}
@@ -68,7 +68,7 @@ returns-2 c =
     (sym c.before.before.before.before.before.before.before.before.before.before.before.before.before.before.before.before.check-lent.ensures ∙ c.before.before.before.before.before.before.before.before.before.before.before.before.before.before.enum_told.given.1) refl in
     let t = c.before.before.before.before.before.before.before.before.totals-of.ensures in
     let r = t.0 ∙ ap (λ (s : Settings). Chart.totals_of a.chart.now (layout_of a.chart.now) s.clock_rate a.values.now) c.before.before.before.before.before.before.before.before.before.before.before.before.before.settings-at.ensures in
-    (ap (λ (y : Skills). result (figure_is (totals_are y)) a.chart.now [] a.values.now) r ∙ sym h.0, (t.1 ∙ sym h.1, refl))
+    (ap (λ (y : Skills). outcome_with (figure_is (totals_are y)) a.chart.now [] a.values.now) r ∙ sym h.0, (t.1 ∙ sym h.1, refl))
 
 pub totals_as_spec : {M : Type 1} → statement M
 totals_as_spec =

@@ -10,7 +10,7 @@ use Rattle.skills.specs.declared.Skills.{Skills}
 use Rattle.skills_playing.specs.Playing.{totals_after}
 use Rattle.calls.specs.Afresh.{totals_to, totals_are, reached_of, figure_of, count}
 use Rattle.calls.specs.Conditions.{lengths}
-use Rattle.calls.specs.Calls.{figure_is, result}
+use Rattle.calls.specs.Calls.{figure_is, outcome_with}
 use Rattle.calls_figures.specs.Answers.{scratch_of}
 use Rattle.calls_figures.proofs.Outcomes.{sums, sized, counted, too_many, as_many, refused_by_sums, refused_as_asked, worked_out}
 use borrow.Author.Rules.{rules}
@@ -85,7 +85,7 @@ returns-3 c =
     (as_many a.m (count a.chart.now) (omega (arith, c.before.before.before.before.before.before.before.before.before.before.before.before.before.before.if1.false, c.before.before.before.before.before.before.before.before.before.before.before.before.before.before.before.count_of.ensures.0))) in
     let t = c.before.before.before.before.before.before.before.before.reached-of.ensures in
     let r = t.0 ∙ ap (λ (s : Settings). totals_after a.chart.now (layout_of a.chart.now) s.clock_rate a.values.now a.m) c.before.before.before.before.before.before.before.before.before.before.before.before.before.settings-at.ensures in
-    (ap (λ (y : Skills). result (figure_is (totals_are y)) a.chart.now [] a.values.now) r ∙ sym h.0, (t.1 ∙ sym h.1, refl))
+    (ap (λ (y : Skills). outcome_with (figure_is (totals_are y)) a.chart.now [] a.values.now) r ∙ sym h.0, (t.1 ∙ sym h.1, refl))
 
 pub totals_to_as_spec : {M : Type 1} → statement M
 totals_to_as_spec =

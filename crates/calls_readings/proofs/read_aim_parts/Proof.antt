@@ -2,7 +2,7 @@
 use mathlib.Core.Path.{sym, ◌∙◌}
 use mathlib.Core.List.{[]}
 use Rattle.calls.specs.Afresh.{aim_parts}
-use Rattle.calls.specs.Calls.{detail_is, result}
+use Rattle.calls.specs.Calls.{detail_is, outcome_with}
 use Rattle.calls_readings.proofs.Outcomes.{detail_refused, detail_read, in_table}
 use borrow.Author.Rules.{rules}
 use Rattle.calls_readings.proofs.read_aim_parts.Statement.{statement}
@@ -30,7 +30,7 @@ returns c =
 returns-2 : tie.Need-returns-2
 returns-2 c =
     let a = c.before.before.before.before.before.before.args in
-    (λ i. result (detail_is (c.aim_at.ensures i)) a.chart.now a.records.now [])
+    (λ i. outcome_with (detail_is (c.aim_at.ensures i)) a.chart.now a.records.now [])
     ∙ sym (detail_read a.chart.now a.records.now a.place aim_parts (sym c.before.before.before.check-reading.ensures ∙ c.before.enum_told.given.1))
 
 pub read_aim_parts_spec : {M : Type 1} → statement M

@@ -1,7 +1,7 @@
 -- `calls_readings::read_aim_parts_as` meets its contract. Assumes nothing.
 use Rattle.chart_opening.specs.Header.{settings_at, settings_of}
 use Rattle.calls.specs.Afresh.{aim_parts}
-use Rattle.calls.specs.Calls.{detail_is, result}
+use Rattle.calls.specs.Calls.{detail_is, outcome_with}
 use Rattle.calls_readings.proofs.OutcomesAs.{detail_refused, detail_read, in_table, aim_any}
 use mathlib.Core.List.{[]}
 use mathlib.Core.Path.{sym, ◌∙◌}
@@ -25,7 +25,7 @@ returns : tie.Need-returns
 returns c = let a = c.before.before.before.before.before.before.before.args in (sym (detail_refused a.settings.now a.chart.now a.records.now a.place aim_parts _ (sym c.before.before.before.check-reading-as.ensures ∙ c.before.r.given.1)), search rules)
 
 returns-2 : tie.Need-returns-2
-returns-2 c = let a = c.before.before.before.before.before.before.before.args in ((λ i. result (detail_is ((c.aim_at.ensures ∙ aim_any (settings_of a.chart.now) (settings_at a.settings.now 0) a.chart.now a.records.now a.place) i)) a.chart.now a.records.now []) ∙ sym (detail_read a.settings.now a.chart.now a.records.now a.place aim_parts (sym c.before.before.before.check-reading-as.ensures ∙ c.before.enum_told.given.1)), search rules)
+returns-2 c = let a = c.before.before.before.before.before.before.before.args in ((λ i. outcome_with (detail_is ((c.aim_at.ensures ∙ aim_any (settings_of a.chart.now) (settings_at a.settings.now 0) a.chart.now a.records.now a.place) i)) a.chart.now a.records.now []) ∙ sym (detail_read a.settings.now a.chart.now a.records.now a.place aim_parts (sym c.before.before.before.check-reading-as.ensures ∙ c.before.enum_told.given.1)), search rules)
 
 pub read_aim_parts_as_spec : {M : Type 1} → statement M
 read_aim_parts_as_spec =

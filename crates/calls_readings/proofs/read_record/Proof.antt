@@ -3,7 +3,7 @@ use mathlib.Core.Path.{sym, ◌∙◌}
 use mathlib.Core.List.{[]}
 use native.Mathlib.Omega.{arith}
 use Rattle.chart_opening.proofs.Header.{holds}
-use Rattle.calls.specs.Calls.{record_is, result}
+use Rattle.calls.specs.Calls.{record_is, outcome_with}
 use Rattle.calls.proofs.Refusals.{accepted_read}
 use Rattle.calls_readings.proofs.Outcomes.{record_refused, record_read}
 use borrow.Author.Rules.{rules}
@@ -31,7 +31,7 @@ returns c =
 returns-2 : tie.Need-returns-2
 returns-2 c =
     let a = c.before.before.before.before.before.before.args in
-    (λ i. result (record_is (c.record-at.ensures i)) a.chart.now a.records.now [])
+    (λ i. outcome_with (record_is (c.record-at.ensures i)) a.chart.now a.records.now [])
     ∙ sym (record_read a.chart.now a.records.now a.place (sym c.before.before.before.check-reading.ensures ∙ c.before.enum_told.given.1))
 
 pub read_record_spec : {M : Type 1} → statement M

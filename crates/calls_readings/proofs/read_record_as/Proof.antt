@@ -3,7 +3,7 @@ use Rattle.chart_players.specs.Under.{framed_under}
 use Rattle.chart_opening.proofs.Header.{framed, holds_framed}
 use Rattle.calls_players.specs.Same.{count_under}
 use Rattle.calls.proofs.Refusals.{accepted_read}
-use Rattle.calls.specs.Calls.{record_is, result}
+use Rattle.calls.specs.Calls.{record_is, outcome_with}
 use Rattle.calls_readings.proofs.OutcomesAs.{record_refused, record_read, passed}
 use mathlib.Core.List.{[]}
 use native.Mathlib.Omega.{arith}
@@ -28,7 +28,7 @@ returns : tie.Need-returns
 returns c = let a = c.before.before.before.before.before.before.before.args in (sym (record_refused a.settings.now a.chart.now a.records.now a.place _ (sym c.before.before.before.check-reading-as.ensures ∙ c.before.r.given.1)), search rules)
 
 returns-2 : tie.Need-returns-2
-returns-2 c = let a = c.before.before.before.before.before.before.before.args in ((λ i. result (record_is (c.record-at.ensures i)) a.chart.now a.records.now []) ∙ sym (record_read a.settings.now a.chart.now a.records.now a.place (sym c.before.before.before.check-reading-as.ensures ∙ c.before.enum_told.given.1)), search rules)
+returns-2 c = let a = c.before.before.before.before.before.before.before.args in ((λ i. outcome_with (record_is (c.record-at.ensures i)) a.chart.now a.records.now []) ∙ sym (record_read a.settings.now a.chart.now a.records.now a.place (sym c.before.before.before.check-reading-as.ensures ∙ c.before.enum_told.given.1)), search rules)
 
 pub read_record_as_spec : {M : Type 1} → statement M
 read_record_as_spec =

@@ -4,7 +4,7 @@ use mathlib.Core.List.{[]}
 use Rattle.chart_opening.specs.declared.Settings.{Settings}
 use Rattle.chart_opening.proofs.Header.{framed}
 use Rattle.calls.specs.Afresh.{rhythm, detail_from}
-use Rattle.calls.specs.Calls.{detail_is, result}
+use Rattle.calls.specs.Calls.{detail_is, outcome_with}
 use Rattle.calls_readings.proofs.Outcomes.{detail_refused, detail_read, in_table}
 use borrow.Author.Rules.{rules}
 use Rattle.calls_readings.proofs.read_rhythm.Statement.{statement}
@@ -37,7 +37,7 @@ returns c =
 returns-2 : tie.Need-returns-2
 returns-2 c =
     let a = c.before.before.before.before.before.before.before.args in
-    (λ i. result (detail_is ((c.rhythm_at.ensures ∙ ap (λ (x : Settings). detail_from rhythm x a.chart.now a.records.now a.place) c.before.settings-at.ensures) i)) a.chart.now a.records.now [])
+    (λ i. outcome_with (detail_is ((c.rhythm_at.ensures ∙ ap (λ (x : Settings). detail_from rhythm x a.chart.now a.records.now a.place) c.before.settings-at.ensures) i)) a.chart.now a.records.now [])
     ∙ sym (detail_read a.chart.now a.records.now a.place rhythm (sym c.before.before.before.before.check-reading.ensures ∙ c.before.before.enum_told.given.1))
 
 pub read_rhythm_spec : {M : Type 1} → statement M

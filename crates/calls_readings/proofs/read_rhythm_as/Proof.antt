@@ -1,7 +1,7 @@
 -- `calls_readings::read_rhythm_as` meets its contract. Assumes nothing.
 use Rattle.chart_opening.specs.declared.Settings.{Settings}
 use Rattle.calls.specs.Afresh.{rhythm, detail_from}
-use Rattle.calls.specs.Calls.{detail_is, result}
+use Rattle.calls.specs.Calls.{detail_is, outcome_with}
 use Rattle.calls_readings.proofs.OutcomesAs.{detail_refused, detail_read, passed, in_table}
 use mathlib.Core.List.{[]}
 use native.Mathlib.Omega.{arith}
@@ -29,7 +29,7 @@ returns : tie.Need-returns
 returns c = let a = c.before.before.before.before.before.before.before.args in (sym (detail_refused a.settings.now a.chart.now a.records.now a.place rhythm _ (sym c.before.before.before.check-reading-as.ensures ∙ c.before.r.given.1)), search rules)
 
 returns-2 : tie.Need-returns-2
-returns-2 c = let a = c.before.before.before.before.before.before.before.before.args in ((λ i. result (detail_is ((c.rhythm_at.ensures ∙ ap (λ (x : Settings). detail_from rhythm x a.chart.now a.records.now a.place) c.before.settings-at.ensures) i)) a.chart.now a.records.now []) ∙ sym (detail_read a.settings.now a.chart.now a.records.now a.place rhythm (sym c.before.before.before.before.check-reading-as.ensures ∙ c.before.before.enum_told.given.1)), search rules)
+returns-2 c = let a = c.before.before.before.before.before.before.before.before.args in ((λ i. outcome_with (detail_is ((c.rhythm_at.ensures ∙ ap (λ (x : Settings). detail_from rhythm x a.chart.now a.records.now a.place) c.before.settings-at.ensures) i)) a.chart.now a.records.now []) ∙ sym (detail_read a.settings.now a.chart.now a.records.now a.place rhythm (sym c.before.before.before.before.check-reading-as.ensures ∙ c.before.before.enum_told.given.1)), search rules)
 
 pub read_rhythm_as_spec : {M : Type 1} → statement M
 read_rhythm_as_spec =

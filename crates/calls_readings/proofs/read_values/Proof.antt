@@ -2,7 +2,7 @@
 use mathlib.Core.Path.{sym, ◌∙◌}
 use mathlib.Core.List.{[]}
 use native.Mathlib.Omega.{arith}
-use Rattle.calls.specs.Calls.{values_are, result}
+use Rattle.calls.specs.Calls.{values_are, outcome_with}
 use Rattle.calls.proofs.Refusals.{accepted_read}
 use Rattle.calls_readings.proofs.Outcomes.{values_refused, values_read}
 use borrow.Author.Rules.{rules}
@@ -31,7 +31,7 @@ returns c =
 returns-2 : tie.Need-returns-2
 returns-2 c =
     let a = c.before.before.before.before.before.before.args in
-    (λ i. result (values_are (c.row_at.ensures i)) a.chart.now [] a.values.now)
+    (λ i. outcome_with (values_are (c.row_at.ensures i)) a.chart.now [] a.values.now)
     ∙ sym (values_read a.chart.now a.values.now a.place (sym c.before.before.before.check-reading.ensures ∙ c.before.enum_told.given.1))
 
 pub read_values_spec : {M : Type 1} → statement M

@@ -1,6 +1,6 @@
 -- `calls_readings::read_values_as` meets its contract. Assumes nothing.
 use Rattle.calls.proofs.Refusals.{accepted_read}
-use Rattle.calls.specs.Calls.{values_are, result}
+use Rattle.calls.specs.Calls.{values_are, outcome_with}
 use Rattle.calls_readings.proofs.OutcomesAs.{values_refused, values_read, passed}
 use mathlib.Core.List.{[]}
 use native.Mathlib.Omega.{arith}
@@ -25,7 +25,7 @@ returns : tie.Need-returns
 returns c = let a = c.before.before.before.before.before.before.before.args in (sym (values_refused a.settings.now a.chart.now a.values.now a.place _ (sym c.before.before.before.check-reading-as.ensures ∙ c.before.r.given.1)), search rules)
 
 returns-2 : tie.Need-returns-2
-returns-2 c = let a = c.before.before.before.before.before.before.before.args in ((λ i. result (values_are (c.row_at.ensures i)) a.chart.now [] a.values.now) ∙ sym (values_read a.settings.now a.chart.now a.values.now a.place (sym c.before.before.before.check-reading-as.ensures ∙ c.before.enum_told.given.1)), search rules)
+returns-2 c = let a = c.before.before.before.before.before.before.before.args in ((λ i. outcome_with (values_are (c.row_at.ensures i)) a.chart.now [] a.values.now) ∙ sym (values_read a.settings.now a.chart.now a.values.now a.place (sym c.before.before.before.check-reading-as.ensures ∙ c.before.enum_told.given.1)), search rules)
 
 pub read_values_as_spec : {M : Type 1} → statement M
 read_values_as_spec =

@@ -1,7 +1,7 @@
 -- `station::aim_into_as` meets its contract. Assumes nothing.
 use mathlib.Core.Path.{sym, ◌∙◌}
 use mathlib.Core.List.{[]}
-use Rattle.calls.specs.Calls.{refused, result, refuse}
+use Rattle.calls.specs.Calls.{refused, outcome_with, refuse}
 use Rattle.station.proofs.Rooms.{into_short_as, into_long_as}
 use borrow.Author.Rules.{rules}
 use Rattle.station.proofs.aim_into_as.Statement.{statement}

@@ -1,7 +1,7 @@
 -- `station::record_into` meets its contract. Assumes nothing.
 use mathlib.Core.Path.{sym, ◌∙◌}
 use mathlib.Core.List.{[]}
-use Rattle.calls.specs.Calls.{refused, result, refuse}
+use Rattle.calls.specs.Calls.{refused, outcome_with, refuse}
 use Rattle.station.proofs.Rooms.{into_short, into_long}
 use borrow.Author.Rules.{rules}
 use Rattle.station.proofs.record_into.Statement.{statement}
@@ -12,7 +12,7 @@ no-room-requires c κs = search rules
 
 returns : tie.Need-returns
 unfolding refuse
-returns c = (λ i. result (refused (c.no_room.ensures i)) c.before.before.before.before.args.chart.now c.before.before.before.before.args.records.now []) ∙ sym (into_short _ _ _ _ c.before.if1.true)
+returns c = (λ i. outcome_with (refused (c.no_room.ensures i)) c.before.before.before.before.args.chart.now c.before.before.before.before.args.records.now []) ∙ sym (into_short _ _ _ _ c.before.if1.true)
 
 read-record-requires : tie.Need-read-record-requires
 read-record-requires c κs = search rules
