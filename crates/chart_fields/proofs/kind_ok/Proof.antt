@@ -1,5 +1,5 @@
 -- `chart_fields::kind_ok` meets its contract. Assumes nothing.
-use mathlib.Core.Bool.{or_false, and-or_distrib_right}
+use mathlib.Core.Bool.{or-false, and-or_distrib_right}
 use borrow.Author.Rules.{rules}
 use borrow.Author.Tests.{ne_eqb}
 use Rattle.chart_fields.proofs.kind_ok.Statement.{statement}
@@ -9,7 +9,7 @@ slider-ok-requires : tie.Need-slider-ok-requires
 slider-ok-requires c κs = search rules
 
 returns : tie.Need-returns
-returns c = simp (c.slider-ok.ensures, c.before.if1.true, or_false)
+returns c = simp (c.slider-ok.ensures, c.before.if1.true, or-false)
 
 plain-ok-requires : tie.Need-plain-ok-requires
 plain-ok-requires c κs = search rules
@@ -19,7 +19,7 @@ returns-2 c =
     simp (
       c.plain_ok.ensures,
       ne_eqb _ _ c.before.before.before.before.before.if1.false,
-      or_false,
+      or-false,
       and-or_distrib_right,
     )
 
