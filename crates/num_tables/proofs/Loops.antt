@@ -8,8 +8,8 @@ use native.Mathlib.Omega.{arith}
 use lib.ListN.{length, get_or, set, take, drop, length-set, length-drop}
 use lib.Seq.{paste, paste-suc, drop-cons, set_split, drop_at, length-take-le, get_or-take, get_or-drop}
 use Rattle.num_tables.specs.Parts.{part, put, moved}
-use Rattle.num_tables.specs.Rows.{length_put, take_put}
-use Rattle.num_tables.specs.Moves.{length_part, moved_none, drop_moved, take_moved}
+use Rattle.num_tables.proofs.Rows.{length_put, take_put}
+use Rattle.num_tables.proofs.Moves.{length_part, moved_none, drop_moved, take_moved}
 
 module _ {ℓ} {A : Type ℓ} where
   -- ---- downward: the first element first

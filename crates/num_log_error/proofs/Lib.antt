@@ -1,0 +1,3 @@
+pub mod LogError
+pub mod Readings
+pub mod Examples

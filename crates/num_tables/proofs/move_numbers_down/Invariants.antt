@@ -1,0 +1,10 @@
+-- `num_tables::move_numbers_down` meets its contract. Assumes nothing.
+use Prim.Native.Nat.{◌-◌}
+use Rattle.num_tables.proofs.Loops.{Down}
+use Rattle.num_tables.proofs.move_numbers_down.Given as goal
+
+abbrev pub invariant-loop-k : goal.invariant-loop-k
+invariant-loop-k l = Down l.initial.t l.from l.to l.n l.t l.k
+
+abbrev pub decreases-loop-k : goal.decreases-loop-k
+decreases-loop-k l = l.n - l.k
