@@ -1,5 +1,5 @@
 -- Document 01, "The chart": nested entries and points; condition 4 of "What each call answers". Definitions only.
-use Rattle.std.specs.Prelude.{ℕ, ◌+◌, ◌*◌, ◌-◌, Bool, not, cond, ◌&&◌, ◌||◌, List, leb, ltb, eqb, Float}
+use Rattle.std.specs.Prelude.{ℕ, ◌+◌, ◌*◌, ◌-◌, Bool, not, cond, ◌&&◌, ◌||◌, List, leb, ltb, eqb}
 use Rattle.std.specs.Float.Ieee as Ieee
 use Rattle.num_floats.specs.Fields.{u32_at, f64_at, f32_at}
 use Rattle.num_floats.specs.Numbers.{zero64}

@@ -3,3 +3,4 @@ pub mod Local
 pub mod Without
 pub mod Checked
 pub mod Written
+pub mod Accepted

@@ -16,7 +16,7 @@ use Rattle.chart_entries.specs.Entries.{bad_entries}
 use Rattle.chart_opening.specs.Accepted.{Clean, clean_body, header_ok_lem, body_ok}
 use Rattle.chart_opening.specs.Header.{layout_of, header_ok, settings_of, too_long, far_apart}
 use Rattle.chart_opening.specs.Conditions.{first_of, refuse_if, refuse_at, body_conditions, Opens}
-use Rattle.chart_opening.specs.declared.Refusal.TheVariants.{Object, Entries, Order, Length}
+use Rattle.chart_opening.specs.declared.Refusal.TheVariants.{Object, Entries, Order}
 use Rattle.chart_replacing.specs.Local.{falls_here}
 use Rattle.chart_replacing.proofs.Searched.{at_none, one}
 use Rattle.chart_inserting.specs.Insert.{remove_object, remove_place_conditions}

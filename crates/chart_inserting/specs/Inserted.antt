@@ -5,8 +5,8 @@ use Rattle.std.proofs.Math.Path.{sym}
 use Rattle.std.proofs.Common.{ap, ◌∙◌, take_all, mul-suc, mul-le-mul_left, add-one, arith, ltb-false, leb-false}
 use mathlib.Mathlib.Data.Bool.Basic.{or-eq-false-eq-eq-false-and-eq-false as neither}
 use Rattle.num_tables.specs.Parts.{part, put, moved}
-use Rattle.num_tables.specs.Rows.{length_put, drop_put, part_put_same, part_put_before, part_put_after}
-use Rattle.num_tables.specs.Moves.{length_moved, drop_moved, part_moved_in, part_moved_before}
+use Rattle.num_tables.proofs.Rows.{length_put, drop_put, part_put_same, part_put_before, part_put_after}
+use Rattle.num_tables.proofs.Moves.{length_moved, drop_moved, part_moved_in, part_moved_before}
 use Rattle.chart_fields.specs.Limits.{header_size, most_objects}
 use Rattle.chart_fields.specs.Objects.{object_at, fields_at, fields_of}
 use Rattle.chart_fields.specs.Same.{fields_same}

@@ -7,7 +7,7 @@ use Rattle.std.proofs.Math.Nat.{div-div-eq-div-mul}
 use Rattle.num_floats.specs.Fields.{u32_at}
 use Rattle.num_floats.specs.Same.{Same, shift, u32_same}
 use Rattle.num_tables.specs.Parts.{part}
-use Rattle.num_tables.specs.Rows.{length_put, drop_put, part_put_before, part_put_after}
+use Rattle.num_tables.proofs.Rows.{length_put, drop_put, part_put_before, part_put_after}
 use Rattle.chart_fields.specs.Limits.{header_size, most_objects}
 use Rattle.chart_fields.specs.declared.Layout.{Layout}
 use Rattle.chart_opening.proofs.Header.{parts, header_by, offsets, offsets_by, few_by, holds}

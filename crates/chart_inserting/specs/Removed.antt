@@ -3,7 +3,7 @@
 use Rattle.std.specs.Prelude.{ℕ, suc, ◌+◌, ◌*◌, ◌-◌, ◌≤◌, ◌<◌, ◌≡◌, true, List, length, drop}
 use Rattle.std.proofs.Common.{sym, ap, ◌∙◌, mul-suc, arith}
 use Rattle.num_tables.specs.Parts.{part, moved}
-use Rattle.num_tables.specs.Moves.{length_moved, drop_moved, part_moved_in, part_moved_before}
+use Rattle.num_tables.proofs.Moves.{length_moved, drop_moved, part_moved_in, part_moved_before}
 use Rattle.chart_fields.specs.Limits.{header_size, most_objects}
 use Rattle.chart_fields.specs.Objects.{object_at}
 use Rattle.chart_fields.specs.Place.{place_within}

@@ -1,6 +1,6 @@
 -- What a list of conditions tells that is met nowhere, and what a chart tells that opens: the header, the settings, and that 3, 4 and 5 hold at no place
 -- (`clean-body`). Assumes nothing.
-use Rattle.std.specs.Prelude.{ℕ, ◌≤◌, ◌<◌, ◌≡◌, refl, Bool, true, false, cond, not, List, [], ◌∷◌, ◌++◌, ltb, Float}
+use Rattle.std.specs.Prelude.{ℕ, ◌≤◌, ◌<◌, ◌≡◌, refl, Bool, true, false, not, List, [], ◌∷◌, ◌++◌, ltb, Float}
 use Rattle.std.proofs.Common.{◌∙◌, arith}
 use borrow.Author.Tests.{ltb-false, le-ltb, not-false}
 use Rattle.chart_fields.specs.Objects.{bad_fields, falls}
@@ -9,7 +9,7 @@ use Rattle.chart_fields.specs.declared.Layout.{Layout}
 use Rattle.chart_fields.proofs.Search.{clean}
 use Rattle.chart_entries.specs.Entries.{bad_entries}
 use Rattle.chart_opening.specs.Header.{layout_of, header_ok, settings_of, settings_ok, too_long}
-use Rattle.chart_opening.specs.Conditions.{refuse_if, refuse_at, first_of, body_conditions, body_of, chart_conditions, Opens, too_few, open_conditions, open_verdict}
+use Rattle.chart_opening.specs.Conditions.{refuse_if, refuse_at, first_of, body_conditions, body_of, chart_conditions, Opens, open_conditions, open_verdict}
 use Rattle.chart_opening.specs.declared.Refusal.{Refusal}
 use Rattle.chart_opening.specs.declared.Refusal.TheVariants.{Header, Setting, Object, Entries, Order, Length, Table}
 use Rattle.chart_opening.specs.declared.Verdict.{Verdict}

@@ -1,18 +1,18 @@
 -- An edit of the second player's chart is that player's chart after the edit. Assumes nothing.
-use Prim.Native.Nat.{ℕ, ◌+◌, ◌-◌, ◌*◌, ◌≤◌, ◌<◌}
+use Prim.Native.Nat.{ℕ, ◌+◌, ◌-◌, ◌≤◌}
 use Rattle.std.specs.Prelude.{◌≡◌, take, drop}
 use Rattle.std.proofs.Math.Path.{refl, ap}
 use Rattle.std.proofs.Common.{sym, ◌∙◌, take-append-drop, length-take-le, take_at, arith}
 use Rattle.std.proofs.Math.Bool.{true}
-use mathlib.Core.List.{List, ◌∷◌, ◌++◌}
+use mathlib.Core.List.{List, ◌++◌}
 use Rattle.std.proofs.Math.ListN.{length}
 use Rattle.num_tables.specs.Parts.{part, put, moved}
-use Rattle.num_tables.specs.Rows.{length_put, drop_put, part_put_after, put_append}
-use Rattle.num_tables.specs.Moves.{length_part, length_moved}
+use Rattle.num_tables.proofs.Rows.{length_put, drop_put, part_put_after, put_append}
+use Rattle.num_tables.proofs.Moves.{length_part, length_moved}
 use Rattle.chart_fields.specs.Limits.{header_size}
 use Rattle.chart_fields.specs.Objects.{object_at}
 use Rattle.chart_fields.specs.declared.Layout.{Layout}
-use Rattle.chart_opening.specs.Limits.{settings_start, settings_size}
+use Rattle.chart_opening.specs.Limits.{settings_start}
 use Rattle.chart_opening.specs.Header.{layout_of, header_ok, chart_length}
 use Rattle.chart_opening.specs.Accepted.{header_ok_lem}
 use Rattle.chart_opening.proofs.Header.{parts, offsets}

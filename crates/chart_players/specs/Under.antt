@@ -1,9 +1,9 @@
 -- The second player's chart has the layout, the objects and the entries of the one that is lent, and the settings and flags of the bytes that come with it. The
 -- chart under its own settings is itself. Assumes nothing.
 use Prim.Native.Nat.{ℕ, ◌+◌, ◌-◌, ◌*◌, ◌≤◌, ◌<◌}
-use Rattle.std.specs.Prelude.{◌≡◌, refl, Bool, true, false, cond, ◌&&◌, eqb, Float}
+use Rattle.std.specs.Prelude.{◌≡◌, refl, Bool, true, false, cond, ◌&&◌, Float}
 use Rattle.std.proofs.Math.Path.{sym, ap}
-use Rattle.std.proofs.Common.{◌∙◌, take-add, drop-drop, le_refl, le-leb, leb-true, leb-false, eqb-true, eq-eqb, ne_eqb}
+use Rattle.std.proofs.Common.{◌∙◌, drop-drop, le_refl, le-leb, eqb-true, eq-eqb}
 use Rattle.std.proofs.Math.Bool.{not}
 use mathlib.Core.List.{List, [], ◌∷◌, ◌++◌}
 use Rattle.std.proofs.Math.Dec.{leb, ltb}
@@ -16,8 +16,8 @@ use Rattle.std.proofs.lemmas.Bool.{lt-leb}
 use Rattle.num_floats.specs.Fields.{u32_at}
 use Rattle.num_floats.specs.Same.{Same, shift, u32_same}
 use Rattle.num_tables.specs.Parts.{part, put}
-use Rattle.num_tables.specs.Rows.{length_put, take_put, drop_put}
-use Rattle.num_tables.specs.Moves.{length_part}
+use Rattle.num_tables.proofs.Rows.{length_put, take_put, drop_put}
+use Rattle.num_tables.proofs.Moves.{length_part}
 use Rattle.chart_fields.specs.Limits.{header_size, object_size, nested_size, point_size}
 use Rattle.chart_fields.specs.Objects.{fields_of, fields_ok, bad_fields, falls, object_at}
 use Rattle.chart_fields.specs.Same.{fields_same}
@@ -182,7 +182,7 @@ module _ (t b : List ℕ) where
 
 -- bytes of another length have no wrong flag
 pub flags_none : (t : List ℕ) → is_settings t ≡ false → flags_ok (u32_at (settings_for t) 44) ≡ true
-unfolding settings_for flags_ok u32_at replicate
+unfolding settings_for flags_ok u32_at
 flags_none t e = ap (λ (x : Bool). flags_ok (u32_at (cond x t (replicate settings_size 0)) 44)) e
 
 -- the chart under its own settings

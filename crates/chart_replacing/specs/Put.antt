@@ -7,7 +7,7 @@ use Rattle.std.proofs.Math.ListN.{length, take, drop}
 use Rattle.std.proofs.Math.Seq.{paste}
 use Rattle.num_floats.specs.Same.{Same}
 use Rattle.num_tables.specs.Parts.{part, put}
-use Rattle.num_tables.specs.Rows.{part_put_same}
+use Rattle.num_tables.proofs.Rows.{part_put_same}
 
 pub part_same : (p q n : ℕ) (a b : List ℕ) → part p n a ≡ part q n b → Same a p b q n
 unfolding part

@@ -5,7 +5,7 @@ use Rattle.std.proofs.Math.Decide.{dec_lt}
 use Rattle.std.proofs.Common.{le_refl, arith}
 use Rattle.num_floats.specs.Same.{Same}
 use Rattle.num_tables.specs.Parts.{part, put}
-use Rattle.num_tables.specs.Rows.{length_put, take_put, drop_put, part_put_same, part_put_before, part_put_after}
+use Rattle.num_tables.proofs.Rows.{length_put, take_put, drop_put, part_put_same, part_put_before, part_put_after}
 use Rattle.chart_fields.specs.Limits.{header_size, nested_size, point_size}
 use Rattle.chart_fields.specs.Objects.{Holds, object_at, fields_at, fields_of}
 use Rattle.chart_fields.specs.Place.{place_within}

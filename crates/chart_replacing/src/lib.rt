@@ -116,6 +116,7 @@ fn check_new(chart: &[u8], lay: Layout, clock: f64, place: usize, f: Fields) -> 
 }
 
 // Condition 8, then 3 to 6 for the chart as it would become; the chart as it is meets none of 1 to 6.
+#[tactic(auto, unfolding(crate::specs::Replace::place_conditions, chart_opening::specs::Conditions::first_of))]
 fn check_at(chart: &[u8], place: usize, object: &[u8]) -> Verdict
     requires { Opens chart.now }
     ensures { result ≡ first_of (place_conditions chart.now place object.now) }
