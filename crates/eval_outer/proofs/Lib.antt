@@ -1,11 +1,4 @@
-pub mod Both
-pub mod Calls
-pub mod Elements
-pub mod Lends
-pub mod Neighbours
-pub mod Rows
 pub mod Same
 pub mod Seen
 pub mod Singles
 pub mod Slots
-pub mod Tests

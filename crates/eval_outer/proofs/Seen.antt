@@ -10,7 +10,7 @@ use lib.ListN.{length}
 use borrow.Author.Tests.{lt-ltb, le-ltb}
 use Rattle.num_whole.specs.NarrowLaws.{narrow_widened}
 use Rattle.num_tables.specs.Parts.{fill}
-use Rattle.num_tables.specs.Rows.{row_fill-in}
+use Rattle.num_tables.proofs.Rows.{row_fill-in}
 use Rattle.chart_fields.specs.declared.Layout.{Layout}
 use Rattle.osu_object.specs.Osu.{Object, object_of}
 use Rattle.osu_object.specs.Base.{repeats_of}
@@ -151,3 +151,25 @@ module _ (chart : List ℕ) (lay : Layout) (w : List Record) (t u : List Float) 
   pub rhythm_table : (records : ℕ) → part.last ≡ last_of j records → (window : Float)
       → rhythm_at_place os (part_at u part) part.last j window ≡ rhythm_at_place os (in_window w j) records j window
   rhythm_table records e window = rhythm_seen os (part_at u part) (in_window w j) j one agrees part.last records (next_alike j part.last records e) window
+
+-- ---- a window has the values of the slice that it is of
+
+module _ (chart : List ℕ) (lay : Layout) (rs w : List Record) (j : ℕ) (one : 1 ≤ j) (of : w ≡ window_of rs j) where
+  abbrev objects : ℕ → Object
+  objects = object_of chart lay
+
+  same_slot : Agree j (in_window w j) (record_of rs)
+  same_slot p h l = ap (λ (v : List Record). in_window v j p) of ∙ window_agrees rs j p h l
+
+  pub aim_window : (sliders : Bool) → aim_at_place objects (in_window w j) j sliders ≡ aim_at_place objects (record_of rs) j sliders
+  aim_window sliders = aim_seen objects (in_window w j) (record_of rs) j one same_slot sliders
+
+  pub flashlight_window : (e : FlashlightEvaluator) (hidden : Bool) → flashlight_at_place e objects (in_window w j) j hidden ≡ flashlight_at_place e objects (record_of rs) j hidden
+  flashlight_window e hidden = flashlight_seen objects (in_window w j) (record_of rs) j one same_slot e hidden
+
+  pub speed_window : (window : Float) (autopilot : Bool)
+      → speed_at_place objects (in_window w j) (length rs) j window autopilot ≡ speed_at_place objects (record_of rs) (length rs) j window autopilot
+  speed_window window autopilot = speed_seen objects (in_window w j) (record_of rs) j one same_slot (length rs) (length rs) refl window autopilot
+
+  pub rhythm_window : (window : Float) → rhythm_at_place objects (in_window w j) (length rs) j window ≡ rhythm_at_place objects (record_of rs) (length rs) j window
+  rhythm_window window = rhythm_seen objects (in_window w j) (record_of rs) j one same_slot (length rs) (length rs) refl window

@@ -1,6 +1,6 @@
 -- Facts of lists for `window`. Assumes nothing.
 --     set-slot     of n + 1 times d and then zs, entry n set
---     with_none    n times d and then nothing
+--     Filled       a window that is filled from its end: the slots from `left` on hold what they are to hold
 --     slot_is      slot k of a window is the record k places after the first
 use mathlib.Core.Path.{◌≡◌, refl, sym, ap, ◌∙◌}
 use Prim.Native.Nat.{ℕ, zero, suc, ◌<◌, ◌+◌}
@@ -9,6 +9,9 @@ use mathlib.Core.List.{List, [], ◌∷◌, ◌++◌}
 use mathlib.Core.Logic.{inl, inr}
 use native.Mathlib.Nat.{not-suc-le-zero, le_of_suc-le-suc, eq-or-lt_of_le}
 use lib.ListN.{get_or, replicate, set}
+use Prim.Native.Nat.{◌≤◌, ◌-◌}
+use Rattle.std.proofs.Common.{slice_set}
+use native.Mathlib.Numerals.{unary_clauses}
 use Rattle.osu_difficulty_object.specs.declared.OsuDifficultyObject.{OsuDifficultyObject as Record}
 use Rattle.osu_records.specs.Part.{first_place}
 use Rattle.eval_outer.specs.Records.{record_of, slots, slot_at, window_of}
@@ -17,9 +20,34 @@ pub set_slot : {X : Type 0} (n : ℕ) (d r : X) (zs : List X) → set (replicate
 set_slot zero d r zs = refl
 set_slot {X} (suc n) d r zs = ap (λ (ws : List X). d ∷ ws) (set_slot n d r zs)
 
-pub with_none : {X : Type 0} (n : ℕ) (d : X) → replicate n d ≡ replicate n d ++ []
-with_none zero d = refl
-with_none {X} (suc n) d = ap (λ (ws : List X). d ∷ ws) (with_none n d)
+-- w is d in the slots before `left`, and holds g's from there on
+pub record Filled (g : ℕ → Record) (d : Record) (left : ℕ) (w : List Record) : Type 0 where
+  pub low : left ≤ 34
+  pub rest : List Record
+  pub is : w ≡ replicate left d ++ rest
+  pub all : slots g left rest ≡ slots g 34 []
+
+pub filled_none : (g : ℕ → Record) (d : Record) (w : List Record) → w ≡ replicate 34 d → Filled g d 34 w
+filled_none g d w e = record { low = omega arith; rest = []; is = e; all = refl }
+
+less : (n : ℕ) → suc n ≤ 34 → n ≤ 34
+less n h = omega arith
+
+one_more : (g : ℕ → Record) (d r : Record) (n : ℕ) (w : List Record) → r ≡ g n → Filled g d (suc n) w → Filled g d n (slice_set w n r)
+one_more g d r n w e f = record {
+  low = less n f.low;
+  rest = r ∷ f.rest;
+  is = ap (λ (v : List Record). set v n r) f.is ∙ set_slot n d r f.rest;
+  all = ap (λ (x : Record). slots g n (x ∷ f.rest)) e ∙ f.all;
+}
+
+pub filled_more : (g : ℕ → Record) (d r : Record) (left : ℕ) (w : List Record) → 0 < left → r ≡ g (left - 1) → Filled g d left w → Filled g d (left - 1) (slice_set w (left - 1) r)
+filled_more g d r zero w h e f = absurd (not-suc-le-zero h)
+filled_more g d r (suc n) w h e f = simp unary_clauses (one_more g d r n w (simp unary_clauses at e) f)
+
+pub filled_all : (g : ℕ → Record) (d : Record) (left : ℕ) (w : List Record) → left ≤ 0 → Filled g d left w → w ≡ slots g 34 []
+filled_all g d zero w h f = f.is ∙ f.all
+filled_all g d (suc n) w h f = absurd (not-suc-le-zero h)
 
 -- past the slots stand zs
 past : (g : ℕ → Record) (n k : ℕ) (zs : List Record) (d : Record) → get_or (slots g n zs) (n + k) d ≡ get_or zs k d

@@ -1,9 +1,6 @@
 // The evaluators' outer entries: each takes the lent slice of records as the Rust does (evaluators/*.rs), copies the records that count
 // into a window, and calls the covered evaluator on the window as a part of the table. Record i of the slice is that of place i + 1. There
 // is a next record where the slice has one; at any other place past its end stands a record of zeros.
-//
-// The borrow checker covers no function with a `&[OsuDifficultyObject]`: `nth`, `window` and the four entries are proved by walks of their
-// MIR. What they call takes numbers, structs and arrays by value, or lends slices of numbers, and is covered.
 #![tactic(auto)]
 
 ghost use Rattle.std.specs.Prelude.{◌≡◌, ◌+◌, ◌-◌, ◌≤◌, ◌<◌, length, replicate};

@@ -1,5 +1,5 @@
 -- RhythmIsland of evaluators/rhythm.rs.
-use Rattle.std.specs.Prelude.{ℕ, ◌+◌, ◌-◌, ◌≤◌, ◌≡◌, Bool, true, false, cond, eqb, ℤ, pos, nat_abs, ◌+ℤ◌, ◌-ℤ◌, Float}
+use Rattle.std.specs.Prelude.{ℕ, ◌≤◌, ◌≡◌, Bool, true, false, cond, eqb, ℤ, pos, nat_abs, ◌+ℤ◌, ◌-ℤ◌, Float}
 use Rattle.std.specs.Int.Signed.{lt_z, rem_z, non_neg}
 use Rattle.std.specs.Float.Ieee as Ieee
 use Rattle.std.specs.Float.{binary64}

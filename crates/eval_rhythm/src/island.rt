@@ -109,6 +109,7 @@ impl RhythmIsland {
     }
 
     // It never holds, since `new` sets a delta of 0.
+    #[tactic(auto, unfolding(crate::specs::Island::default_of))]
     pub fn is_default(self) -> bool
         ensures { result ≡ default_of self }
     {

@@ -13,7 +13,7 @@ use Rattle.osu_difficulty_object.proofs.Laws.{place_capped}
 use Rattle.osu_difficulty_object.specs.declared.Placed.{Placed}
 use Rattle.osu_difficulty_object.specs.declared.OsuDifficultyObject.{OsuDifficultyObject}
 use Rattle.num_tables.specs.Parts.{fill}
-use Rattle.num_tables.specs.Rows.{length_put, fill_none, fill_step}
+use Rattle.num_tables.proofs.Rows.{length_put, fill_none, fill_step}
 use Rattle.osu_records.specs.Rows.{row_of, put_record}
 use Rattle.osu_records.specs.Fill.{chart_row, filled_range}
 use Rattle.osu_records.proofs.Laws.{row_length}

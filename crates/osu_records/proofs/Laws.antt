@@ -10,7 +10,7 @@ use lib.Seq.{sets, get_or-take, get_or-drop}
 use lib.Ieee.{Float, nan, ne, eq, of_bits, binary32}
 use Rattle.num_whole.specs.Narrow.{narrow}
 use Rattle.num_tables.specs.Parts.{part, row}
-use Rattle.num_tables.specs.Rows.{sets_put}
+use Rattle.num_tables.proofs.Rows.{sets_put}
 use Rattle.osu_difficulty_object.specs.declared.OsuDifficultyObject.{OsuDifficultyObject}
 use Rattle.osu_records.specs.Rows.{number_of, flag_of, record_from, row_of, record_at, put_record}
 

@@ -1,0 +1,11 @@
+-- `eval_flashlight::FlashlightEvaluator::evaluate_place` meets its contract. Assumes nothing.
+use mathlib.Core.Path.{◌∙◌}
+use Rattle.osu_object.specs.Osu.{object_of}
+use Rattle.eval_flashlight.proofs.Walk.{flashlight_part}
+use borrow.Author.Rules.{rules}
+use Rattle.eval_flashlight.proofs.FlashlightEvaluator.evaluate_place.Goals as goal
+
+pub returns : goal.returns
+returns c =
+    let a = c.args in
+    c.evaluate_diff_of.ensures ∙ flashlight_part a.self (object_of a.chart.now a.lay) a.t.now a.lay.n a.j c.part_of-part.result _ (search rules) (search rules) c.part_of-part.ensures.0 c.part_of-part.ensures.1

@@ -1,0 +1,11 @@
+-- `eval_outer::aim_in` meets its contract: the table holds the window. Assumes nothing.
+use mathlib.Core.Path.{◌∙◌}
+use native.Mathlib.Omega.{arith}
+use Rattle.eval_outer.proofs.Seen.{aim_table}
+use Rattle.eval_outer.proofs.aim_in.Goals as goal
+
+pub returns : goal.returns
+returns c =
+    let a = c.args in
+    c.evaluate_diff_of.ensures
+    ∙ aim_table a.chart.now a.lay a.w _ _ a.j c.part_in-part.result c.requires.2 c.part_in-part.ensures.0 (omega arith) c.requires.0 c.put_window.ensures a.with_slider_travel_dist

@@ -1,0 +1,13 @@
+-- `eval_outer::evaluate_rhythm` meets its contract: the window has the values of the slice. Assumes nothing.
+use mathlib.Core.Path.{◌∙◌}
+use Rattle.eval_outer.proofs.Seen.{rhythm_window}
+use Rattle.eval_outer.proofs.Singles.{in_f32}
+use Rattle.eval_outer.proofs.evaluate_rhythm.Goals as goal
+
+pub rhythm_in-requires : goal.rhythm_in-requires
+rhythm_in-requires c = let p = c.requires in (in_f32 c.window-w.result _ c.window-w.type_inv, p.0, p.1, p.2)
+
+pub returns : goal.returns
+returns c =
+    let a = c.args in
+    c.rhythm_in.ensures ∙ rhythm_window a.chart.now a.lay a.diff_objects.now c.window-w.result a.j c.requires.1 c.window-w.ensures a.hit_window

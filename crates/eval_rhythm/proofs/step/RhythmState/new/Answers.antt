@@ -1,0 +1,7 @@
+-- `eval_rhythm::step::RhythmState::new` meets its contract. Assumes nothing.
+use Rattle.eval_rhythm.specs.Step.{fresh_state}
+use Rattle.eval_rhythm.proofs.step.RhythmState.new.Goals as goal
+
+pub returns : goal.returns
+unfolding fresh_state
+returns c = simp (c.new-prev_island.ensures, c.new-island.ensures)

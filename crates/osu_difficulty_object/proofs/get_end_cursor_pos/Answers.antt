@@ -1,0 +1,11 @@
+-- `osu_difficulty_object::get_end_cursor_pos` meets its contract. Assumes nothing.
+use Rattle.osu_difficulty_object.specs.Record.{end_cursor}
+use Rattle.osu_difficulty_object.proofs.get_end_cursor_pos.Goals as goal
+
+pub returns-then-cursor : goal.returns-then-cursor
+unfolding end_cursor
+returns-then-cursor c = simp c.if-cursor.true
+
+pub returns : goal.returns
+unfolding end_cursor
+returns c = simp (c.if-cursor.false, c.stacked_pos.ensures)

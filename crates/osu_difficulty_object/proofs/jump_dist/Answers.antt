@@ -1,0 +1,7 @@
+-- `osu_difficulty_object::jump_dist` meets its contract. Assumes nothing.
+use Rattle.osu_difficulty_object.specs.Record.{jump_dist}
+use Rattle.osu_difficulty_object.proofs.jump_dist.Goals as goal
+
+pub returns : goal.returns
+unfolding jump_dist
+returns c = simp (c.widen.ensures, c.length.ensures, c.sub.ensures, c.scaled-from.ensures, c.scaled-to.ensures, c.stacked_pos.ensures)
