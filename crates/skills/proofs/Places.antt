@@ -12,7 +12,7 @@ use Rattle.num_floats.specs.Numbers.{◌⊖◌, ◌⊘◌, zero64}
 use Rattle.chart_fields.specs.Objects.{fields_of}
 use Rattle.chart_fields.specs.declared.Layout.{Layout}
 use Rattle.num_tables.specs.Parts.{row, put, fill}
-use Rattle.num_tables.specs.Rows.{sets_put, fill_none, fill_step}
+use Rattle.num_tables.proofs.Rows.{sets_put, fill_none, fill_step}
 use Rattle.skills.specs.declared.Sections.{Sections}
 use Rattle.skills.specs.declared.Skill.{Skill}
 use Rattle.skills.specs.Strains.{strain_next, joined, initial_strain, room, Walk, close_to, join, closed, reached, walk, peaks_to, current, strain_at}

@@ -1,6 +1,6 @@
 -- skills/strain.rs, difficulty_value, and the sum of skills/flashlight.rs. Document 01, "Strains and totals": "`cs_where` keeps order, `cs_order_descending` puts
 -- the largest first, `cs_sum` adds from 0 in list order". Definitions only.
-use Rattle.std.specs.Prelude.{ℕ, zero, suc, cond, List, [], ◌∷◌, ltb, pos, Float}
+use Rattle.std.specs.Prelude.{ℕ, suc, cond, List, [], ◌∷◌, ltb, pos, Float}
 use Rattle.std.specs.Float.Ieee as Ieee
 use Rattle.std.specs.Float.{binary32}
 use Rattle.std.specs.Float.Ieee.{of_int}

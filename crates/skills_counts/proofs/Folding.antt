@@ -4,20 +4,19 @@ use native.Mathlib.Numerals.{add-one}
 use native.Mathlib.Omega.{arith}
 use mathlib.Core.Path.{◌≡◌, refl, sym, ap, ◌∙◌}
 use mathlib.Core.Bool.{Bool, true, false, cond}
-use mathlib.Core.List.{List, [], ◌∷◌}
+use mathlib.Core.List.{List, ◌∷◌}
 use lib.Ieee.{Float}
-use Rattle.num_floats.specs.Numbers.{◌⊖◌, ◌⊘◌}
 use Rattle.chart_fields.specs.Objects.{fields_of}
 use Rattle.chart_fields.specs.declared.Layout.{Layout}
 use Rattle.num_tables.specs.Parts.{row}
 use Rattle.skills.specs.declared.Skill.{Skill}
-use Rattle.skills.specs.Strains.{strain_next, joined, current, strain_at}
+use Rattle.skills.specs.Strains.{current, strain_at}
 use Rattle.skills.specs.Chart.{delta_at}
 use Rattle.skills_counts.specs.declared.fold.Joining.{Joining}
 use Rattle.skills_counts.specs.declared.fold.Objects.{Objects}
 use Rattle.skills_counts.specs.declared.fold.Place.{Place}
 use Rattle.skills_counts.specs.Counts.{list_from}
-use Rattle.skills_counts.specs.Fold.{join_of, folded, keeps_of, place_zero, place_next, strain_of, strains_of}
+use Rattle.skills_counts.specs.Fold.{join_of, folded, keeps_of, place_zero, place_next, strain_of}
 
 -- ---- on lists
 

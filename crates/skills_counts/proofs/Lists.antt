@@ -14,6 +14,7 @@ use Rattle.num_util.specs.FloatExt.{eq}
 use Rattle.skills.specs.Value.{sum_from}
 use Rattle.skills_counts.specs.declared.fold.Joining.{Joining}
 use Rattle.skills_counts.specs.declared.fold.Joining.TheVariants.{Weight, SliderWeight, Share, Max, TotalMax}
+use Rattle.num_floats.specs.Compare.{max_of}
 use Rattle.skills_counts.specs.Lists.{top_strain, weight, slider_weight, share, sum_of, count_top_weighted_strains, count_top_weighted_sliders, max_from, get_difficult_sliders, total_key, total_max, total_max_from, relevant_note_count}
 use Rattle.skills_counts.specs.Counts.{list_from, every}
 use Rattle.skills_counts.specs.Fold.{join_of, folded}
@@ -40,12 +41,12 @@ shares largest l = sum_folded (Share largest) (λ s. share s largest) (λ to x. 
 pub largest : (to : Float) (l : List Float) → folded Max to l ≡ max_from to l
 unfolding folded join_of max_from
 largest to [] = refl
-largest to (x ∷ xs) = largest _ xs
+largest to (x ∷ xs) = largest (max_of to x) xs
 
 total_largest : (to : Float) (l : List Float) → folded TotalMax to l ≡ total_max_from to l
 unfolding folded join_of total_max_from
 total_largest to [] = refl
-total_largest to (x ∷ xs) = total_largest _ xs
+total_largest to (x ∷ xs) = total_largest (total_max to x) xs
 
 -- ---- the counts, by the test on the top or the largest strain
 

@@ -3,11 +3,11 @@ use Prim.Native.Nat.{ℕ, zero, suc, ◌+◌, ◌-◌, ◌≤◌, ◌<◌}
 use native.Mathlib.Omega.{arith}
 use mathlib.Core.Path.{◌≡◌, refl}
 use mathlib.Core.Bool.{Bool, cond}
-use mathlib.Core.List.{List, [], ◌∷◌}
+use mathlib.Core.List.{List, ◌∷◌}
 use lib.Ieee.{Float}
 use Rattle.skills.specs.declared.Skill.{Skill}
 use Rattle.skills.specs.declared.Skill.TheVariants.{Aim, AimNoSliders, Speed}
-use Rattle.skills.specs.Strains.{strain_at, total}
+use Rattle.skills.specs.Strains.{strain_at}
 use Rattle.skills.proofs.Local.{strain_local, total_local}
 use Rattle.skills_counts.specs.Lists.{count_top_weighted_strains, count_top_weighted_sliders, get_difficult_sliders, relevant_note_count}
 use Rattle.skills_counts.specs.Counts.{list_from, every, object_strains, slider_strains, counts_by, counts}

@@ -6,7 +6,7 @@ use mathlib.Core.List.{List}
 use lib.ListN.{length, set}
 use lib.Ieee.{Float}
 use Rattle.num_tables.specs.Parts.{put}
-use Rattle.num_tables.specs.Rows.{sets_put}
+use Rattle.num_tables.proofs.Rows.{sets_put}
 use Rattle.skills.specs.declared.Skills.{Skills}
 use Rattle.skills_playing.specs.Playing.{total_row}
 

@@ -2,14 +2,14 @@
 use Prim.Native.Nat.{ℕ, suc, ◌≤◌, ◌<◌, ◌+◌, ◌-◌, ◌*◌}
 use native.Mathlib.Omega.{arith}
 use mathlib.Core.Path.{◌≡◌, refl, sym, ap, ◌∙◌, subst}
-use mathlib.Core.List.{List, [], ◌∷◌}
+use mathlib.Core.List.{List}
 use lib.ListN.{length}
 use lib.Ieee.{Float}
 use Rattle.num_floats.specs.Numbers.{◌⊖◌, ◌⊘◌, zero64}
 use Rattle.chart_fields.specs.Objects.{fields_of}
 use Rattle.chart_fields.specs.declared.Layout.{Layout}
 use Rattle.num_tables.specs.Parts.{row, put, fill}
-use Rattle.num_tables.specs.Rows.{fill_none, fill_step}
+use Rattle.num_tables.proofs.Rows.{fill_none, fill_step}
 use Rattle.skills.specs.Chart.{start_at, delta_at}
 use Rattle.skills.specs.Strains.{total, total_to}
 use Rattle.skills.specs.declared.Skill.{Skill}

@@ -4,7 +4,7 @@ use Rattle.std.specs.Prelude.{ℕ, ◌+◌, ◌*◌, ◌≤◌, ◌≡◌, refl,
 use Rattle.std.proofs.Common.{arith}
 use Rattle.chart_fields.specs.declared.Layout.{Layout}
 use Rattle.num_tables.specs.Parts.{row, fill}
-use Rattle.num_tables.specs.Rows.{row_fill-in, drop-fill}
+use Rattle.num_tables.proofs.Rows.{row_fill-in, drop-fill}
 use Rattle.skills.specs.Chart.{totals_of}
 use Rattle.skills_playing.specs.Playing.{total_row, row_after}
 

@@ -1,5 +1,5 @@
 -- What the walk keeps of a skill's closed sections, and the total from that. Definitions only.
-use Rattle.std.specs.Prelude.{ℕ, ◌-◌, ◌≤◌, ◌≡◌, List, [], ◌∷◌, length, take, Float}
+use Rattle.std.specs.Prelude.{ℕ, ◌-◌, ◌≤◌, ◌≡◌, List, [], length, take, Float}
 use Rattle.num_floats.specs.Numbers.{◌⊕◌, zero64}
 use Rattle.num_sort.specs.Sort.{sort_desc}
 use Rattle.skills.specs.Value.{positives, sum_from, reduced_sections, speed_reduced_sections}

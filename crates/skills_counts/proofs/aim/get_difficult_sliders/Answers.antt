@@ -1,0 +1,31 @@
+-- `skills_counts::aim::get_difficult_sliders` meets its contract. Assumes nothing.
+use mathlib.Core.Path.{◌≡◌, sym, ap, ◌∙◌}
+use mathlib.Core.List.{List}
+use lib.Ieee.{Float}
+use Rattle.num_floats.specs.Numbers.{zero64}
+use Rattle.num_util.specs.FloatExt.{eq}
+use Rattle.skills.specs.declared.Skill.TheVariants.{Aim}
+use Rattle.skills_counts.specs.declared.fold.Joining.TheVariants.{Share}
+use Rattle.skills_counts.specs.Lists.{max_from}
+use Rattle.skills_counts.specs.Chart.{slider_strains}
+use Rattle.skills_counts.specs.Fold.{folded, keeps_of}
+use Rattle.skills_counts.proofs.Lists.{largest, none_difficult, difficult_shares}
+use Rattle.skills_counts.proofs.aim.get_difficult_sliders.Goals as goal
+
+pub returns-then-eq : goal.returns-then-eq
+unfolding keeps_of
+returns-then-eq c =
+    let a = c.args in
+    let l : List Float = slider_strains a.chart.now a.lay a.clock a.values.now Aim in
+    let m : c.fold-max.result ≡ max_from zero64 l = c.fold-max.ensures ∙ largest zero64 l in
+    sym (none_difficult l (ap (λ (x : Float). eq x zero64) (sym m) ∙ sym c.eq.ensures ∙ c.if-eq.true))
+
+pub returns : goal.returns
+unfolding keeps_of
+returns c =
+    let a = c.args in
+    let l : List Float = slider_strains a.chart.now a.lay a.clock a.values.now Aim in
+    let m : c.fold-max.result ≡ max_from zero64 l = c.fold-max.ensures ∙ largest zero64 l in
+    c.fold.ensures
+    ∙ ap (λ (x : Float). folded (Share x) zero64 l) m
+    ∙ sym (difficult_shares l (ap (λ (x : Float). eq x zero64) (sym m) ∙ sym c.eq.ensures ∙ c.if-eq.false))

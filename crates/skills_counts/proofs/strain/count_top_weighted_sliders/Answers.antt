@@ -1,0 +1,23 @@
+-- `skills_counts::strain::count_top_weighted_sliders` meets its contract. Assumes nothing.
+use mathlib.Core.Path.{sym, ◌∙◌}
+use mathlib.Core.List.{List}
+use lib.Ieee.{Float}
+use Rattle.skills_counts.specs.Lists.{top_strain}
+use Rattle.skills_counts.specs.Chart.{slider_strains}
+use Rattle.skills_counts.specs.Fold.{keeps_of}
+use Rattle.skills_counts.proofs.Lists.{sliders_flat, sliders_weighed}
+use Rattle.skills_counts.proofs.strain.count_top_weighted_sliders.Goals as goal
+
+pub returns-then-eq : goal.returns-then-eq
+unfolding top_strain
+returns-then-eq c =
+    let a = c.args in
+    let l : List Float = slider_strains a.chart.now a.lay a.clock a.values.now a.skill in
+    sym (sliders_flat l a.difficulty_value (sym c.eq.ensures ∙ c.if-eq.true))
+
+pub returns : goal.returns
+unfolding top_strain keeps_of
+returns c =
+    let a = c.args in
+    let l : List Float = slider_strains a.chart.now a.lay a.clock a.values.now a.skill in
+    c.fold.ensures ∙ sym (sliders_weighed l a.difficulty_value (sym c.eq.ensures ∙ c.if-eq.false))
