@@ -1,8 +1,8 @@
 -- A call by itself, on any chart and any tables: what it leaves, and that the table which it doesn't borrow makes no difference; and that a call on the opening's
 -- own tables is admissible. Assumes nothing.
-use mathlib.Core.Path.{◌≡◌, refl, sym, ap, ◌∙◌, subst, subst⁻¹}
+use mathlib.Core.Path.{◌≡◌, refl, ap, subst⁻¹}
 use mathlib.Core.List.{List, [], ◌∷◌, map}
-use Prim.Native.Nat.{ℕ, ◌-◌, ◌≤◌}
+use Prim.Native.Nat.{ℕ}
 use lib.Ieee.{Float}
 use lib.ListN.{length, drop}
 use native.Mathlib.Omega.{arith}
@@ -11,7 +11,6 @@ use Rattle.chart_opening.specs.Conditions.{if_accepted}
 use Rattle.chart_opening.specs.declared.Refusal.{Refusal}
 use Rattle.chart_opening.specs.declared.Verdict.{Verdict}
 use Rattle.chart_opening.specs.declared.Verdict.TheVariants.{Accepted, Refused}
-use Rattle.chart_replacing.specs.Replace.{put_object}
 use Rattle.calls.specs.Simulation.{Throughout}
 use Rattle.calls.specs.Tables.{contents, table_after}
 use Rattle.calls.specs.Afresh.{Detail, Figure, count}
@@ -19,7 +18,7 @@ use Rattle.calls.specs.Conditions.{Scratch, Lengths, lengths, Operation, replace
 use Rattle.calls.specs.Calls.{State, Outcome, refuse, opened, open_answer, open_leaves, edited, put_in, taken_out, execute, verdict_in, outcome, zeros, cleared, scratch_after, lent, state_after, perform}
 use Rattle.calls.specs.Statement.{OwnTables, Outside, Admissible, count_after, own_call}
 use Rattle.calls.proofs.Refusals.{opening_met, accepted_replace, accepted_insert, accepted_remove}
-use Rattle.calls.proofs.Replacing.{layout_same, count_same, put_keeps}
+use Rattle.calls.proofs.Replacing.{count_same, put_keeps}
 use Rattle.calls.proofs.Moving.{inserted_more, inserted_keeps, removed_more, removed_keeps}
 use Rattle.calls.proofs.Locality.{open_outside}
 use Rattle.calls.proofs.Steps.{outside_refl, edited_outside, put_in_outside, taken_out_outside}

@@ -1,7 +1,7 @@
 -- The frame of a replacement, in any state and whatever tables it borrows. Assumes nothing.
-use mathlib.Core.Path.{◌≡◌, refl, sym, ap, ◌∙◌, subst⁻¹}
+use mathlib.Core.Path.{◌≡◌, refl, ap, ◌∙◌, subst⁻¹}
 use mathlib.Core.List.{List}
-use Prim.Native.Nat.{ℕ, ◌+◌, ◌-◌, ◌*◌, ◌≤◌, ◌<◌, min, max}
+use Prim.Native.Nat.{ℕ, ◌+◌, ◌-◌, ◌≤◌, ◌<◌, min, max}
 use native.Mathlib.Omega.{arith}
 use lib.Ieee.{Float}
 use lib.ListN.{length}
@@ -18,7 +18,7 @@ use Rattle.calls.specs.Tables.{record_width, value_width, Borrowed, contents, ta
 use Rattle.calls.specs.Afresh.{count, fresh_row, values_from, strains_from}
 use Rattle.calls.specs.Conditions.{replace}
 use Rattle.calls.specs.Calls.{replaced_records, replaced_values, records_start, records_made, values_start, values_made, edit_records, edit_values, State, edited, execute, verdict_in, Call, lent, state_after, perform}
-use Rattle.calls.specs.Statement.{Frame, FrameAfresh}
+use Rattle.calls.specs.Statement.{Frame}
 use Rattle.calls.proofs.Refusals.{Roomy, accepted_replace}
 use Rattle.calls.proofs.Replacing.{count_same, settings_same, object_same}
 use Rattle.calls.proofs.Locality.{record_width_lem, value_width_lem, afresh_frame, strain_local}

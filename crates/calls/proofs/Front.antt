@@ -7,7 +7,7 @@ use lib.Ieee.{Float}
 use lib.ListN.{length, take, drop, length-take, take-append-drop}
 use lib.Seq.{take-take, drop-drop}
 use Rattle.num_tables.specs.Parts.{part, put, row, fill}
-use Rattle.num_tables.specs.Rows.{take-drop, part_append, fill-append, row_fill_out}
+use Rattle.num_tables.proofs.Rows.{take-drop, part_append, fill-append, row_fill_out}
 use Rattle.calls.specs.Tables.{Borrowed, own, front, foreign, IsOwn, contents, length_of, table_after}
 
 module _ {A : Type 0} where

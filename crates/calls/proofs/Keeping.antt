@@ -7,7 +7,7 @@ use native.Mathlib.Omega.{arith}
 use lib.ListN.{length, take, drop, set, take-append-drop}
 use lib.Seq.{length-take-le, take-take, take_at, drop_at, drop-drop}
 use Rattle.num_tables.specs.Parts.{part}
-use Rattle.num_tables.specs.Rows.{take-drop}
+use Rattle.num_tables.proofs.Rows.{take-drop}
 use Rattle.chart_fields.specs.Limits.{header_size, nested_size, point_size}
 use Rattle.chart_fields.specs.Objects.{Holds}
 use Rattle.chart_fields.specs.declared.Layout.{Layout}

@@ -13,4 +13,5 @@ pub mod Places
 pub mod Limits
 pub mod Alone
 pub mod Playing
+pub mod Shown
 pub mod Theorems

@@ -1,27 +1,24 @@
 -- The place of a refusal is at most the largest number of objects. Assumes nothing.
 use mathlib.Core.Path.{◌≡◌, refl, sym, ap, ◌∙◌}
-use mathlib.Core.List.{List, [], ◌∷◌}
-use mathlib.Core.Bool.{Bool, true, false, not}
-use Prim.Native.Nat.{ℕ, ◌/◌, ◌≤◌, ◌<◌}
+use mathlib.Core.List.{List}
+use mathlib.Core.Bool.{Bool, true, false}
+use Prim.Native.Nat.{ℕ, ◌≤◌, ◌<◌}
 use native.Mathlib.Omega.{arith}
-use lib.ListN.{length}
 use Rattle.chart_fields.specs.Limits.{most_objects}
-use Rattle.chart_opening.specs.Header.{layout_of, header_ok}
-use Rattle.chart_opening.specs.Conditions.{refusal_place, first_of, chart_conditions, open_conditions, open_verdict, Opens}
+use Rattle.chart_opening.specs.Header.{header_ok}
+use Rattle.chart_opening.specs.Conditions.{refusal_place, first_of, chart_conditions, open_conditions}
 use Rattle.chart_opening.specs.Accepted.{first_refused, header_ok_lem}
 use Rattle.chart_opening.specs.declared.Refusal.{Refusal}
 use Rattle.chart_opening.specs.declared.Refusal.TheVariants.{Header, Setting, Object, Entries, Order, Length, Table, Place, Room, NotFinite}
-use Rattle.chart_opening.specs.declared.Verdict.{Verdict}
-use Rattle.chart_opening.specs.declared.Verdict.TheVariants.{Accepted, Refused}
+use Rattle.chart_opening.specs.declared.Verdict.TheVariants.{Refused}
 use Rattle.chart_opening.proofs.Header.{holds}
 use Rattle.chart_replacing.specs.Replace.{put_object}
 use Rattle.chart_inserting.specs.Insert.{insert_object, remove_object}
 use Rattle.chart_replacing.specs.Replaced as R
 use Rattle.chart_inserting.specs.Inserted as Into
 use Rattle.chart_inserting.specs.Removed as Out
-use Rattle.calls.specs.Tables.{entries_of}
-use Rattle.calls.specs.Afresh.{Figure, count}
-use Rattle.calls.specs.Conditions.{Lengths, scratch_short, Operation, replace, insert, remove, read_record, read_values, read_detail, figure, sum_conditions, figure_conditions, opening, refusal}
+use Rattle.calls.specs.Afresh.{count}
+use Rattle.calls.specs.Conditions.{Operation, replace, insert, remove, read_record, read_values, read_detail, figure, sum_conditions, figure_conditions, opening, refusal}
 use Rattle.calls.specs.Statement.{Placed, ReplacePlaced, of_chart, of_place, of_length, of_result, InsertPlaced, insert_of_chart, insert_of_place, insert_of_room, insert_of_length, insert_of_result, RemovePlaced, remove_of_chart, remove_of_place, remove_of_result}
 use Rattle.calls.proofs.Refusals.{opening_met}
 use Rattle.calls.proofs.Places.{same_refusal, opening_placed, replace_placed, insert_placed, remove_placed, record-placed, values_placed, detail_placed, figure_placed}

@@ -11,7 +11,7 @@ use lib.ListN.{length, get_or}
 use borrow.Author.Tests.{ltb-false}
 use Rattle.num_floats.specs.Numbers.{◌⊖◌, ◌⊘◌}
 use Rattle.num_tables.specs.Parts.{row}
-use Rattle.num_tables.specs.Rows.{length-fill, take-fill, drop-fill, row_fill-in, row_fill_out}
+use Rattle.num_tables.proofs.Rows.{length-fill, take-fill, drop-fill, row_fill-in, row_fill_out}
 use Rattle.chart_opening.specs.Header.{layout_of, settings_of}
 use Rattle.chart_opening.specs.Conditions.{first_of}
 use Rattle.chart_opening.specs.Accepted.{not_met, head_accepts}

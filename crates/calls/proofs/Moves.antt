@@ -17,7 +17,7 @@ use Rattle.skills.specs.Chart.{delta_at}
 use Rattle.calls.specs.Tables.{record_width, value_width}
 use Rattle.calls.specs.Afresh.{count, object, fresh_record, fresh_values, fresh_strains, strains_from}
 use Rattle.calls.specs.Conditions.{insert, remove}
-use Rattle.calls.specs.Calls.{State, state, put_in, taken_out, execute, verdict_in}
+use Rattle.calls.specs.Calls.{State, put_in, taken_out, execute, verdict_in}
 use Rattle.calls.specs.Statement.{settings_in, MovedAfresh, Moved}
 use Rattle.calls.proofs.Refusals.{accepted_insert, accepted_remove}
 use Rattle.calls.proofs.Locality.{record_local, strain_local}

@@ -1,10 +1,9 @@
 -- The place that a refusal returns. Assumes nothing.
-use mathlib.Core.Path.{◌≡◌, refl, sym, ap, ◌∙◌, subst, subst⁻¹}
+use mathlib.Core.Path.{◌≡◌, refl, sym, ap, ◌∙◌, subst}
 use mathlib.Core.List.{List, [], ◌∷◌, ◌++◌}
 use mathlib.Core.Bool.{Bool, true, false, cond, not, ◌&&◌}
-use Prim.Native.Nat.{ℕ, zero, suc, ◌+◌, ◌/◌, ◌≤◌, ◌<◌}
+use Prim.Native.Nat.{ℕ, zero, suc, ◌+◌, ◌/◌, ◌<◌}
 use native.Mathlib.Omega.{arith}
-use native.Mathlib.Decide.{ℕ_discrete}
 use lib.Dec.{ltb, leb, eqb}
 use lib.ListN.{length}
 use borrow.Author.Tests.{ltb-true, ltb-false, leb-true, leb-false, eqb-true, eqb-false}
@@ -19,7 +18,7 @@ use Rattle.chart_opening.specs.declared.Refusal.{Refusal}
 use Rattle.chart_opening.specs.declared.Refusal.TheVariants.{Header, Setting, Object, Entries, Order, Length, Table, Place, Room, NotFinite}
 use Rattle.chart_opening.specs.declared.Verdict.{Verdict}
 use Rattle.chart_opening.specs.declared.Verdict.TheVariants.{Accepted, Refused}
-use Rattle.chart_replacing.specs.Replace.{put_object, place_conditions, replace_conditions, replace_verdict}
+use Rattle.chart_replacing.specs.Replace.{put_object, place_conditions, replace_conditions}
 use Rattle.chart_inserting.specs.Insert.{insert_object, remove_object, no_room, insert_place_conditions, insert_conditions, remove_place_conditions, remove_conditions}
 use Rattle.skills_stars.specs.Stars.{finite_asked}
 use Rattle.calls.specs.Tables.{entries_of}

@@ -1,16 +1,15 @@
 -- What a call for the totals while playing leaves of the list that it is lent. Assumes nothing.
-use mathlib.Core.Path.{◌≡◌, refl, sym, ap, ◌∙◌}
+use mathlib.Core.Path.{◌≡◌, refl, ap, ◌∙◌}
 use mathlib.Core.List.{List}
-use Prim.Native.Nat.{ℕ, zero, suc, ◌+◌, ◌*◌, ◌/◌, ◌≤◌, ◌<◌}
+use Prim.Native.Nat.{ℕ, zero, suc, ◌+◌, ◌*◌, ◌/◌, ◌≤◌}
 use native.Mathlib.Omega.{arith}
 use lib.Dec.{ltb}
 use lib.Ieee.{Float}
 use lib.ListN.{length, drop}
 use borrow.Author.Tests.{ltb-false}
 use Rattle.num_tables.specs.Parts.{row, put, fill}
-use Rattle.num_tables.specs.Rows.{row_fill-in, drop-fill}
+use Rattle.num_tables.proofs.Rows.{row_fill-in, drop-fill}
 use Rattle.chart_opening.specs.Header.{settings_of}
-use Rattle.chart_opening.specs.Conditions.{first_of}
 use Rattle.chart_opening.specs.Accepted.{not_met, head_accepts}
 use Rattle.chart_opening.specs.declared.Settings.{Settings}
 use Rattle.chart_opening.specs.declared.Refusal.{Refusal}
@@ -22,8 +21,8 @@ use Rattle.skills.specs.declared.Skills.{Skills}
 use Rattle.skills_playing.specs.Playing.{total_row}
 use Rattle.calls.specs.Tables.{value_width, totals_width}
 use Rattle.calls.specs.Afresh.{count, totals, totals_to, playing, totals_of, reached_of, figure_of}
-use Rattle.calls.specs.Conditions.{Lengths, Operation, figure, asked_conditions, refusal}
-use Rattle.calls.specs.Calls.{Answer, Outcome, State, refuse, execute, verdict_in, outcome, put_totals, amount_list, list_after}
+use Rattle.calls.specs.Conditions.{Lengths, Operation, figure, asked_conditions}
+use Rattle.calls.specs.Calls.{Outcome, State, refuse, execute, verdict_in, outcome, put_totals, amount_list, list_after}
 use Rattle.calls.specs.Statement.{settings_in}
 use Rattle.calls.proofs.Refusals.{figure_accepted}
 use Rattle.calls.proofs.Alone.{carried_out, refused_as}

@@ -4,7 +4,7 @@ use mathlib.Core.Logic.{◌↔◌}
 use mathlib.Core.List.{List, [], ◌∷◌, ◌++◌, append_assoc}
 use mathlib.Core.Bool.{Bool, true, false, ◌&&◌}
 use mathlib.Mathlib.Data.Bool.Basic.{or-eq-false-eq-eq-false-and-eq-false as neither}
-use Prim.Native.Nat.{ℕ, suc, ◌+◌, ◌*◌, ◌/◌, ◌≤◌, ◌<◌}
+use Prim.Native.Nat.{ℕ, suc, ◌*◌, ◌/◌, ◌≤◌, ◌<◌}
 use native.Mathlib.Omega.{arith}
 use lib.Dec.{ltb}
 use borrow.Author.Tests.{ltb-true, ltb-false, le-ltb}
@@ -16,8 +16,10 @@ use Rattle.chart_opening.specs.declared.Refusal.TheVariants.{Header, Table, Plac
 use Rattle.chart_opening.specs.declared.Verdict.{Verdict}
 use Rattle.chart_opening.specs.declared.Verdict.TheVariants.{Accepted, Refused}
 use Rattle.chart_opening.proofs.Header.{both}
-use Rattle.chart_replacing.specs.Accepted.{Taken, taken, room}
-use Rattle.chart_inserting.specs.Accepted.{Inserted, Removed, inserted, insert_entries, removed, remove_entries}
+use Rattle.chart_replacing.specs.Accepted.{Taken}
+use Rattle.chart_replacing.proofs.Accepted.{taken, room}
+use Rattle.chart_inserting.specs.Accepted.{Inserted, Removed}
+use Rattle.chart_inserting.proofs.Accepted.{inserted, insert_entries, removed, remove_entries}
 use Rattle.calls.specs.Tables.{record_width, value_width, least_scratch, entries_of}
 use Rattle.calls.specs.Afresh.{Detail, Figure, count}
 use Rattle.calls.specs.Conditions.{Lengths, replace, insert, remove, read_record, read_values, read_detail, figure, scratch_short, row_conditions, read_conditions, read_verdict, sum_conditions, sum_verdict, asked_conditions, figure_conditions, figure_verdict, opening, refusal}

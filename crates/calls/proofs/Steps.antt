@@ -1,13 +1,13 @@
 -- One call on an opened chart: it keeps the tables fresh, answers as the plain chart does, and writes entries 1 to N - 1 only. Assumes nothing.
 use mathlib.Core.Path.{◌≡◌, refl, sym, ap, ◌∙◌, subst, subst₂}
 use mathlib.Core.List.{List, ◌++◌}
-use Prim.Native.Nat.{ℕ, suc, ◌+◌, ◌-◌, ◌*◌, ◌/◌, ◌≤◌, ◌<◌, min, max}
+use Prim.Native.Nat.{ℕ, suc, ◌+◌, ◌-◌, ◌*◌, ◌≤◌, ◌<◌, min, max}
 use native.Mathlib.Omega.{arith}
 use lib.Ieee.{Float}
-use lib.ListN.{length, take, drop}
+use lib.ListN.{length}
 use Rattle.num_tables.specs.Parts.{row, fill, rows_up, rows_down}
-use Rattle.num_tables.specs.Rows.{fill-append}
-use Rattle.num_tables.specs.Moves.{length_rows_up, take_rows_up, drop_rows_up, rows_up_append, row_rows_up, row_rows_up_out, length_rows_down, take_rows_down, drop_rows_down, rows_down_append, row_rows_down, row_rows_down_out}
+use Rattle.num_tables.proofs.Rows.{fill-append}
+use Rattle.num_tables.proofs.Moves.{length_rows_up, take_rows_up, drop_rows_up, rows_up_append, row_rows_up, row_rows_up_out, length_rows_down, take_rows_down, drop_rows_down, rows_down_append, row_rows_down, row_rows_down_out}
 use Rattle.osu_records.specs.Rows.{record_at}
 use Rattle.osu_records.proofs.Laws.{record_same}
 use Rattle.chart_opening.specs.Header.{settings_of}
@@ -22,13 +22,13 @@ use Rattle.chart_inserting.specs.Insert.{insert_object, remove_object}
 use Rattle.chart_inserting.specs.OneMore.{OneMore}
 use Rattle.chart_inserting.specs.Accepted.{Inserted, Removed}
 use Rattle.calls.specs.Tables.{record_width, value_width, Borrowed, IsOwn, contents, length_of, table_after}
-use Rattle.calls.specs.Afresh.{count, object, fresh_row, values_from, fresh_figure, figure_from, figure_of}
+use Rattle.calls.specs.Afresh.{count, fresh_row, values_from}
 use Rattle.calls.specs.Conditions.{Operation, replace, insert, remove, read_record, read_values, read_detail, figure, refusal}
 use Rattle.calls.specs.Calls.{replaced_records, replaced_values, inserted_records, inserted_values, removed_records, removed_values, first_moved, records_start, records_made, values_start, values_made, edit_records, edit_values, Answer, refused, record_is, values_are, detail_is, figure_is, State, state, Outcome, refuse, opened, edited, put_in, taken_out, execute, verdict_in, outcome, Call, lent, state_after, perform, question, compute, plain}
 use Rattle.calls.specs.Statement.{OwnTables, Outside, Fresh, settings_in, Admissible}
 use Rattle.calls.proofs.Refusals.{Roomy, accepted_replace, accepted_insert, accepted_remove, accepted_record, accepted_values, accepted_detail, figure_accepted}
 use Rattle.calls.proofs.Replacing.{count_same, settings_same, object_same}
-use Rattle.calls.proofs.Locality.{read_back, values_from_same, detail_local, detail_from_lem, figure_local, figure_from_lem, record_width_lem, value_width_lem, open_fresh, open_records_length, open_values_length, open_outside, edit_records_length, edit_values_length, edit_record_kept, edit_value_kept, edit_record_made, edit_value_made, edit_outside, edit_fresh}
+use Rattle.calls.proofs.Locality.{read_back, values_from_same, detail_local, detail_from_lem, figure_local, figure_from_lem, record_width_lem, value_width_lem, open_fresh, open_records_length, open_values_length, edit_records_length, edit_values_length, edit_record_kept, edit_value_kept, edit_record_made, edit_value_made, edit_outside, edit_fresh}
 use Rattle.calls.proofs.Moving.{inserted_more, removed_more, object_before, object_later}
 use Rattle.calls.proofs.Inserting.{inserted_fresh, removed_fresh}
 use Rattle.calls.proofs.Front.{later_drop, fill-same, after_same, length_lent, lent_shorter, row_lent, row_left, after_whole}

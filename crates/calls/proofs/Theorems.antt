@@ -2,13 +2,11 @@
 use mathlib.Core.Path.{◌≡◌, refl, sym, ap, ◌∙◌, subst, subst⁻¹, subst₂}
 use mathlib.Core.Logic.{◌↔◌}
 use mathlib.Core.List.{List, [], ◌∷◌, ◌++◌, map}
-use Prim.Native.Nat.{ℕ, ◌+◌, ◌-◌, ◌*◌, ◌≤◌, ◌<◌, min}
+use Prim.Native.Nat.{ℕ, ◌+◌, ◌-◌, ◌≤◌, ◌<◌, min}
 use native.Mathlib.Omega.{arith}
 use native.Mathlib.Decide.{dec_lt}
-use lib.Ieee.{Float}
 use lib.ListN.{length}
 use Rattle.num_tables.specs.Parts.{row}
-use Rattle.chart_fields.specs.Objects.{fields_of}
 use Rattle.chart_fields.specs.declared.Fields.{Fields}
 use Rattle.chart_opening.specs.Header.{layout_of, settings_of}
 use Rattle.chart_opening.specs.declared.Verdict.TheVariants.{Accepted}
@@ -19,17 +17,18 @@ use Rattle.eval_rhythm.proofs.Bounded.{comparisons_bounded}
 use Rattle.eval_values.specs.Values.{reach_of}
 use Rattle.skills.proofs.Settles.{walk_unbounded}
 use Rattle.calls.specs.Simulation.{answers, after, Throughout}
-use Rattle.calls.specs.Tables.{record_width, value_width, Borrowed}
-use Rattle.calls.specs.Afresh.{count, object, fresh_row, fresh_values}
-use Rattle.calls.specs.Conditions.{replace, opening}
+use Rattle.calls.specs.Tables.{value_width, Borrowed}
+use Rattle.calls.specs.Afresh.{count, object, fresh_values}
+use Rattle.calls.specs.Conditions.{replace}
 use Rattle.calls.specs.Calls.{Answer, State, opened, open_answer, Call, perform, Question, question, plain}
-use Rattle.calls.specs.Statement.{Outside, Fresh, settings_in, Admissible, Kept, edits, Shown, Sound, Frame, unplaced, fields_in, Agree, Alike, Claims}
-use Rattle.calls.proofs.Refusals.{opening_met, opening_none, figure_accepted}
+use Rattle.calls.specs.Statement.{Outside, Fresh, settings_in, Admissible, Kept, edits, Sound, Frame, unplaced, Agree, Alike, Claims}
+use Rattle.calls.proofs.Refusals.{opening_met, figure_accepted}
 use Rattle.calls.proofs.Places.{opening_placed, replace_placed, insert_placed, remove_placed, record-placed, values_placed, detail_placed, figure_placed, refusal_told}
 use Rattle.calls.proofs.Limits.{opening_limit, place_limit}
-use Rattle.calls.proofs.Locality.{value_local, reach_at, strain_from, detail_from_lem, figure_from_lem, aim_held, rhythm_held, open_fresh, read_back}
+use Rattle.calls.proofs.Locality.{value_local, reach_at}
 use Rattle.calls.proofs.Simulating.{simulate, after_last, throughout_front, throughout_next}
 use Rattle.calls.proofs.Steps.{Inv, Good, step, opened_inv, outside_refl, outside_trans, outside_later}
+use Rattle.calls.proofs.Shown.{opened_values, shown}
 use Rattle.calls.proofs.Keeping.{plain_kept}
 use Rattle.calls.proofs.Playing.{playing_entry, playing_whole, playing_rest, playing_refused}
 use Rattle.calls.proofs.Frames.{frame}
@@ -62,43 +61,9 @@ module _ (st₀ : State) where
       let g : Good st₀ st (perform c st) (plain (asked c) st.chart) = step st₀ c st i t.0 in
       outside_trans (outside_later n h.0 g.outside) (outside_list n cs (perform c st).1 g.inv t.1 h.1)
 
--- opening a chart, into any tables, gives what is worked out afresh
-reopened : (st : State) → open_answer st ≡ Accepted → Fresh (settings_of st.chart) (opened st)
-unfolding opened open_answer
-reopened st e =
-    let (o, r) = opening_met (length st.records) (length st.values) st.chart e in
-    open_fresh (settings_of st.chart) st.chart st.records st.values r.records r.values
-
-opened_values : (st : State) → open_answer st ≡ Accepted → (j : ℕ) → 1 ≤ j → j < count st.chart
-    → row value_width (opened st).values j ≡ fresh_values (settings_of st.chart) st.chart j
-unfolding opened
-opened_values st e j p q = (reopened st e).values j p q
-
-opened_records : (st : State) → open_answer st ≡ Accepted → (j : ℕ) → 1 ≤ j → j < count st.chart
-    → row record_width (opened st).records j ≡ fresh_row (settings_of st.chart) st.chart j
-unfolding opened
-opened_records st e j p q = (reopened st e).records j p q
-
 opened_chart : (st : State) → (opened st).chart ≡ st.chart
 unfolding opened
 opened_chart st = refl
-
--- what holds at any time after the opening is all that is shown
-pub shown : (st₀ st : State) → Inv st₀ st → Shown st
-shown st₀ st i =
-    record {
-      opens = λ r v x y. opening_none r v st.chart i.opens x y;
-      fresh = i.fresh;
-      reads = λ j p q. read_back (settings_in st) st.chart st.records j (i.fresh.records j p q);
-      strains = λ j p q. strain_from (settings_in st) st j q i.fresh;
-      details = λ d j p q. detail_from_lem d (settings_in st) st j p q i.fresh;
-      figures = λ f a. figure_from_lem f (settings_in st) st a i.fresh;
-      rhythm = λ j p q. rhythm_held (settings_in st) st j p q i.fresh;
-      aim = λ j p q sliders. aim_held (settings_in st) st j p q i.fresh sliders;
-      again = λ rs vs e' j p q.
-          let copy : State = record { chart = st.chart; records = rs; values = vs } in
-          (i.fresh.records j p q ∙ sym (opened_records copy e' j p q), i.fresh.values j p q ∙ sym (opened_values copy e' j p q));
-    }
 
 module _ (st₀ : State) (e : open_answer st₀ ≡ Accepted) where
   start : Inv st₀ (opened st₀)

@@ -1,6 +1,6 @@
 -- "Afresh: by this document's rules from the chart's bytes alone": records, values, strains, details and figures of a chart, under given settings; and what follows
 -- from tables as they are found. Definitions only.
-use Rattle.std.specs.Prelude.{true, false, List, ℕ, zero, ◌+◌, Float}
+use Rattle.std.specs.Prelude.{true, false, List, ℕ, ◌+◌, Float}
 use Rattle.num_tables.specs.Parts.{row}
 use Rattle.chart_opening.specs.Header.{layout_of}
 use Rattle.chart_opening.specs.declared.Settings.{Settings}

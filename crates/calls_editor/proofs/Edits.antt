@@ -10,9 +10,9 @@ use Rattle.chart_opening.specs.declared.Refusal.{Refusal}
 use Rattle.chart_opening.specs.declared.Verdict.{Verdict}
 use Rattle.chart_opening.specs.declared.Verdict.TheVariants.{Accepted, Refused}
 use Rattle.chart_replacing.specs.Replace.{replace_verdict}
-use Rattle.chart_replacing.specs.Accepted.{taken}
+use Rattle.chart_replacing.proofs.Accepted.{taken}
 use Rattle.chart_inserting.specs.Insert.{insert_verdict, remove_verdict}
-use Rattle.chart_inserting.specs.Accepted.{inserted, removed}
+use Rattle.chart_inserting.proofs.Accepted.{inserted, removed}
 
 pub chart_after : (v : Verdict) (new old b : List ℕ) → b ≡ if_accepted v new (λ _. old) → v ≡ Accepted → b ≡ new
 unfolding if_accepted

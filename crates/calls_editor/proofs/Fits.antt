@@ -1,5 +1,5 @@
 -- What an accepted chart tells of its tables, for either player. Assumes nothing.
-use Prim.Native.Nat.{ℕ, ◌*◌, ◌≤◌}
+use Prim.Native.Nat.{ℕ, ◌≤◌}
 use mathlib.Core.Path.{◌≡◌, sym, ◌∙◌}
 use mathlib.Core.List.{List}
 use native.Mathlib.Omega.{arith}
@@ -14,7 +14,7 @@ use Rattle.osu_object.specs.Osu.{Ready}
 use Rattle.osu_difficulty_object.proofs.Accepted.{body_ready, chart_ready}
 use Rattle.chart_players.specs.Second.{under, second_verdict}
 use Rattle.chart_players.specs.Under.{framed_under}
-use Rattle.chart_players.specs.Verdicts.{second_accepted, open_under}
+use Rattle.chart_players.proofs.Verdicts.{second_accepted, open_under}
 use Rattle.calls.specs.Tables.{entries_of}
 use Rattle.calls.specs.Conditions.{opening}
 use Rattle.calls.proofs.Refusals.{opening_met}

@@ -1,6 +1,6 @@
 -- An edit, by the condition that it meets: refused it changes nothing, accepted it is carried out. Assumes nothing.
 use Prim.Native.Nat.{ℕ, ◌-◌, min, max}
-use mathlib.Core.Path.{◌≡◌, refl, ap, ◌∙◌}
+use mathlib.Core.Path.{◌≡◌, refl, ap}
 use mathlib.Core.List.{List}
 use lib.Ieee.{Float}
 use lib.ListN.{length}
@@ -17,7 +17,7 @@ use Rattle.chart_inserting.specs.Insert.{insert_object, remove_object, insert_ve
 use Rattle.eval_values.specs.Values.{values_in}
 use Rattle.calls.specs.Tables.{record_width, value_width, entries_of}
 use Rattle.calls.specs.Conditions.{replace, insert, remove, opening, refusal}
-use Rattle.calls.specs.Calls.{open_start, open_made, replaced_records, replaced_values, inserted_records, inserted_values, removed_records, removed_values, first_moved, records_start, records_made, values_start, values_made, open_records, open_values, edit_records, edit_values, refused, replaced, inserted, removed, Outcome, State, state, outcome_with, refuse, opened, open_answer, open_leaves, edited, put_in, taken_out, execute, verdict_in, outcome}
+use Rattle.calls.specs.Calls.{open_start, open_made, replaced_records, replaced_values, inserted_records, inserted_values, removed_records, removed_values, first_moved, records_start, records_made, values_start, values_made, open_records, open_values, edit_records, edit_values, refused, replaced, inserted, removed, Outcome, state, outcome_with, refuse, opened, open_answer, open_leaves, edited, put_in, taken_out, execute, verdict_in, outcome}
 use Rattle.calls.proofs.Alone.{carried_out, refused_as}
 
 -- ---- What the loops leave is what opening and replacing leave

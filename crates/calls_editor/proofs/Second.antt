@@ -8,22 +8,24 @@ use native.Mathlib.Omega.{arith}
 use Rattle.num_tables.specs.Parts.{rows_up, rows_down}
 use Rattle.chart_fields.specs.Limits.{header_size}
 use Rattle.chart_opening.specs.Limits.{settings_size}
-use Rattle.chart_opening.specs.Header.{layout_of, settings_of, settings_at}
+use Rattle.chart_opening.specs.Header.{settings_of, settings_at}
 use Rattle.chart_opening.specs.Accepted.{header_ok_lem}
-use Rattle.chart_opening.specs.Conditions.{Opens, if_accepted, open_verdict}
+use Rattle.chart_opening.specs.Conditions.{if_accepted, open_verdict}
 use Rattle.chart_opening.specs.declared.Settings.{Settings}
 use Rattle.chart_opening.specs.declared.Refusal.{Refusal}
 use Rattle.chart_opening.specs.declared.Verdict.{Verdict}
 use Rattle.chart_opening.specs.declared.Verdict.TheVariants.{Accepted, Refused}
 use Rattle.chart_opening.proofs.Header.{parts}
 use Rattle.chart_replacing.specs.Replace.{put_object, replace_verdict}
-use Rattle.chart_replacing.specs.Accepted.{Taken, taken, room}
+use Rattle.chart_replacing.specs.Accepted.{Taken}
+use Rattle.chart_replacing.proofs.Accepted.{taken, room}
 use Rattle.chart_inserting.specs.Insert.{insert_object, remove_object, insert_verdict, remove_verdict}
-use Rattle.chart_inserting.specs.Accepted.{Inserted, Removed, inserted, insert_entries, removed, remove_entries}
+use Rattle.chart_inserting.specs.Accepted.{Inserted, Removed}
+use Rattle.chart_inserting.proofs.Accepted.{inserted, insert_entries, removed, remove_entries}
 use Rattle.chart_players.specs.Second.{under, second_verdict, both_verdict}
 use Rattle.chart_players.specs.Under.{for_settings, settings_under}
 use Rattle.chart_players.specs.Commutes.{put_object_under, insert_object_under, remove_object_under}
-use Rattle.chart_players.specs.Verdicts.{second_accepted, settings_are, both_accepted}
+use Rattle.chart_players.proofs.Verdicts.{second_accepted, settings_are, both_accepted}
 use Rattle.calls.specs.Tables.{record_width, value_width, entries_of}
 use Rattle.calls.specs.Afresh.{count}
 use Rattle.calls.specs.Conditions.{replace, insert, remove, refusal}

@@ -140,7 +140,7 @@ pub fn replace(
     records: &mut [f64],
     values: &mut [f64],
 ) -> Verdict
-    ensures values_after { outcome_with (replace_answer result) chart.new records.new values.new
+    ensures { outcome_with (replace_answer result) chart.new records.new values.new
         ≡ outcome (ops.replace place object.now) (state chart.old records.old values.old) }
 {
     match chart_replacing::replace(
@@ -251,7 +251,7 @@ pub fn insert(
     records: &mut [f64],
     values: &mut [f64],
 ) -> Verdict
-    ensures values_after { outcome_with (insert_answer result) chart.new records.new values.new
+    ensures { outcome_with (insert_answer result) chart.new records.new values.new
         ≡ outcome (ops.insert place object.now) (state chart.old records.old values.old) }
 {
     match chart_inserting::insert(

@@ -22,7 +22,7 @@ use Rattle.chart_opening.proofs.Header.{framed, holds_framed}
 use Rattle.chart_opening.proofs.Body.{last}
 use Rattle.chart_players.specs.Second.{under, second_verdict}
 use Rattle.chart_players.specs.Under.{framed_under}
-use Rattle.chart_players.specs.Verdicts.{first_append, refused_first, accepted_first, second_then, second_accepted, settings_are}
+use Rattle.chart_players.proofs.Verdicts.{first_append, refused_first, accepted_first, second_then, second_accepted, settings_are}
 use Rattle.skills_playing.specs.Playing.{total_row}
 use Rattle.skills_stars.specs.Stars.{finite_asked}
 use Rattle.skills_stars.specs.declared.Asked.{Asked}

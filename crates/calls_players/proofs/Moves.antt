@@ -1,26 +1,24 @@
 -- One call of two players on an opened chart: both players' tables stay fresh, and the answer is that of the plain chart under the settings of the player who asks.
 -- Each player's part is the one player's step. Assumes nothing.
 use Prim.Native.Nat.{ℕ}
-use mathlib.Core.Path.{◌≡◌, refl, sym, ap, ◌∙◌, subst, subst₂}
+use mathlib.Core.Path.{◌≡◌, refl, sym, ap, ◌∙◌, subst}
 use mathlib.Core.List.{List}
-use lib.Ieee.{Float}
 use lib.ListN.{length}
 use Rattle.chart_opening.specs.Conditions.{if_accepted}
-use Rattle.chart_opening.specs.declared.Refusal.{Refusal}
 use Rattle.chart_opening.specs.declared.Verdict.{Verdict}
 use Rattle.chart_opening.specs.declared.Verdict.TheVariants.{Accepted, Refused}
 use Rattle.chart_players.specs.Second.{under, second_verdict, both_verdict}
 use Rattle.chart_players.specs.Commutes.{put_object_under, insert_object_under, remove_object_under}
-use Rattle.chart_players.specs.Verdicts.{second_accepted, both_accepted}
+use Rattle.chart_players.proofs.Verdicts.{second_accepted, both_accepted}
 use Rattle.calls.specs.Tables.{Borrowed, length_of}
-use Rattle.calls.specs.Conditions.{Operation, opening, refusal}
+use Rattle.calls.specs.Conditions.{opening, refusal}
 use Rattle.calls.specs.Calls.{Answer, refused, State, state, opened, open_answer, open_leaves, execute, verdict_in, Call, lent, perform, Question, question, compute, plain}
 use Rattle.calls.specs.Statement.{Edit, put, put_before, take_out, OwnTables, Admissible}
 use Rattle.calls.proofs.Refusals.{opening_met, opening_none, accepted_replace, accepted_insert, accepted_remove}
 use Rattle.calls.proofs.Steps.{Inv, Good, step, verdict_lent, perform_accepted, opened_inv}
 use Rattle.calls_players.specs.Second.{seen, open_answer_as, opened_as, open_leaves_as}
-use Rattle.calls_players.specs.Both.{Pair, pair, first_of, second_of, Session, first, second, operation_of, Move, edit, of_first, of_second, open_first, open_second, Reply, answered, opens, call_of, first_verdict, second_verdict_of, edit_verdict, edit_session, open_session, open_session_as, perform_both, Query, ask, plain_second, plain_edit, plain_both}
-use Rattle.calls_players.specs.Statement.{Reads, AdmissibleBoth}
+use Rattle.calls_players.specs.Both.{second_of, Session, first, second, operation_of, Move, edit, of_first, of_second, open_first, open_second, Reply, answered, opens, call_of, first_verdict, second_verdict_of, edit_verdict, edit_session, open_session, open_session_as, perform_both, Query, ask, plain_second, plain_edit, plain_both}
+use Rattle.calls_players.specs.Statement.{AdmissibleBoth}
 
 -- an edit of the second player's chart, where the first player's is accepted
 edited_under : (e : Edit) (t : List ℕ) (r v : ℕ) (b : List ℕ) → refusal (operation_of e) r v b ≡ Accepted

@@ -2,7 +2,7 @@
 use Prim.Native.Nat.{ℕ, ◌≤◌, ◌<◌}
 use mathlib.Core.Path.{◌≡◌, refl, sym, ap, ◌∙◌}
 use mathlib.Core.Bool.{Bool, true, false, not}
-use mathlib.Core.List.{List, [], ◌∷◌, ◌++◌}
+use mathlib.Core.List.{List, ◌∷◌}
 use lib.ListN.{length}
 use borrow.Author.Tests.{eq-eqb, lt-leb}
 use Rattle.num_tables.specs.Parts.{part}
@@ -16,9 +16,9 @@ use Rattle.chart_opening.specs.declared.Verdict.{Verdict}
 use Rattle.chart_opening.specs.declared.Verdict.TheVariants.{Accepted, Refused}
 use Rattle.chart_replacing.specs.Replace.{replace_conditions}
 use Rattle.chart_inserting.specs.Insert.{insert_conditions, remove_conditions}
-use Rattle.chart_players.specs.Second.{is_settings, under, second_verdict}
+use Rattle.chart_players.specs.Second.{second_verdict}
 use Rattle.chart_players.specs.Under.{own_length, under_own}
-use Rattle.chart_players.specs.Verdicts.{second_header, second_passed, both_first, both_second, refused_first}
+use Rattle.chart_players.proofs.Verdicts.{second_header, second_passed, both_first, both_second, refused_first}
 use Rattle.calls.specs.Afresh.{Figure}
 use Rattle.calls.specs.Conditions.{Scratch, lengths, Operation, replace, insert, remove, read_record, read_values, read_detail, figure, read_conditions, sum_conditions, figure_conditions, refusal, opening}
 use Rattle.calls.specs.Calls.{State, refuse, opened, open_answer, open_leaves, execute, verdict_in, outcome, cleared, scratch_after}

@@ -1,21 +1,21 @@
 -- Two players over one chart: every claim of `Statement`. Assumes nothing.
 use Prim.Native.Nat.{ℕ}
-use mathlib.Core.Path.{◌≡◌, refl, sym, ap, ◌∙◌, subst}
-use mathlib.Core.List.{List, map}
+use mathlib.Core.Path.{◌≡◌, refl, subst}
+use mathlib.Core.List.{List}
 use lib.ListN.{length}
 use Rattle.chart_opening.specs.Conditions.{if_accepted}
 use Rattle.chart_opening.specs.declared.Verdict.{Verdict}
 use Rattle.chart_opening.specs.declared.Verdict.TheVariants.{Accepted, Refused}
 use Rattle.chart_players.specs.Second.{under}
-use Rattle.chart_players.specs.Verdicts.{second_accepted, both_accepted}
+use Rattle.chart_players.proofs.Verdicts.{second_accepted, both_accepted}
 use Rattle.calls.specs.Simulation.{answers, after, Throughout}
 use Rattle.calls.specs.Tables.{own, contents, table_after}
-use Rattle.calls.specs.Calls.{State, state, opened, open_answer, refused, execute, verdict_in, lent, state_after, perform}
+use Rattle.calls.specs.Calls.{State, opened, open_answer, refused, lent, state_after, perform}
 use Rattle.calls.specs.Statement.{Edit}
 use Rattle.calls.proofs.Simulating.{simulate}
 use Rattle.calls.proofs.Refusals.{opening_met}
 use Rattle.calls.proofs.Steps.{Inv, opened_inv, perform_accepted}
-use Rattle.calls.proofs.Theorems.{shown}
+use Rattle.calls.proofs.Shown.{shown}
 use Rattle.calls_players.specs.Second.{seen, open_answer_as, opened_as, open_leaves_as, verdict_as}
 use Rattle.calls_players.specs.Both.{Pair, pair, first_of, second_of, both_answer, edited_both, both_leaves, Session, first, second, operation_of, Move, edit, open_first, open_second, Reply, answered, call_of, first_verdict, second_verdict_of, edit_verdict, edit_session, open_session, open_session_as, perform_both, Query, ask, plain_both}
 use Rattle.calls_players.specs.Statement.{AdmissibleBoth, opened_both, SoundBoth, Claims}

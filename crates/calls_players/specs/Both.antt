@@ -1,6 +1,6 @@
 -- Document 02, order 8: "An edit brings both up to date". A chart with two players' tables, an edit for both, a call of either, and the plain chart of two players.
 -- Definitions only.
-use Rattle.std.specs.Prelude.{ℕ, List, Float, length}
+use Rattle.std.specs.Prelude.{ℕ, List, Float}
 use Rattle.chart_opening.specs.Conditions.{if_accepted}
 use Rattle.chart_opening.specs.declared.Verdict.{Verdict}
 use Rattle.chart_players.specs.Second.{under, second_verdict, both_verdict}

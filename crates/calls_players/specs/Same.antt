@@ -1,22 +1,19 @@
 -- What is worked out of the second player's chart is what is worked out of the one that is lent, under that player's settings. Assumes nothing.
-use Prim.Native.Nat.{ℕ, zero, suc, ◌+◌, ◌-◌, min, max}
-use Rattle.std.specs.Prelude.{◌≡◌, Bool, true, false, List, Float}
+use Prim.Native.Nat.{ℕ, zero, suc, ◌+◌, ◌-◌, min}
+use Rattle.std.specs.Prelude.{◌≡◌, true, false, List, Float}
 use Rattle.std.proofs.Math.Path.{refl, ap}
 use Rattle.std.proofs.Common.{◌∙◌}
 use Rattle.std.proofs.Math.Dec.{eqb}
 use Rattle.num_floats.specs.Numbers.{◌⊖◌, ◌⊘◌}
 use Rattle.num_tables.specs.Parts.{row, fill}
 use Rattle.chart_fields.specs.Objects.{fields_of, slider}
-use Rattle.chart_fields.specs.declared.Fields.{Fields}
 use Rattle.chart_fields.specs.declared.Layout.{Layout}
 use Rattle.chart_entries.specs.Entries.{nested_of, point_of}
-use Rattle.chart_entries.specs.declared.Nested.{Nested}
-use Rattle.chart_entries.specs.declared.Point.{Point}
 use Rattle.chart_opening.specs.Header.{layout_of}
 use Rattle.chart_opening.specs.declared.Settings.{Settings}
 use Rattle.chart_players.specs.Second.{under}
 use Rattle.chart_players.specs.Under.{layout_under, fields_under, nested_under, points_under}
-use Rattle.osu_object.specs.Osu.{Object, osu_object, list_from}
+use Rattle.osu_object.specs.Osu.{osu_object, list_from}
 use Rattle.osu_object.proofs.Alike as Same
 use Rattle.osu_difficulty_object.specs.Record.{chart_record, record_of}
 use Rattle.osu_records.specs.Rows.{row_of, record_at}

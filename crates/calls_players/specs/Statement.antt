@@ -9,10 +9,10 @@ use Rattle.chart_opening.specs.declared.Verdict.TheVariants.{Accepted, Refused}
 use Rattle.calls.specs.Simulation.{answers, after, Throughout}
 use Rattle.calls.specs.Tables.{own}
 use Rattle.calls.specs.Conditions.{Operation, replace, insert, remove, read_record, read_values, read_detail, figure}
-use Rattle.calls.specs.Calls.{State, opened, open_answer, open_leaves, outcome, verdict_in, Call}
+use Rattle.calls.specs.Calls.{State, opened, open_answer, verdict_in}
 use Rattle.calls.specs.Statement.{OwnTables, Edit, Shown}
-use Rattle.calls_players.specs.Second.{seen, open_answer_as, opened_as, open_leaves_as, verdict_as, outcome_as}
-use Rattle.calls_players.specs.Both.{Pair, first_of, second_of, both_answer, edited_both, both_leaves, Session, first, second, operation_of, Move, edit, of_first, of_second, open_first, open_second, Reply, answered, opens, call_of, first_verdict, second_verdict_of, edit_verdict, perform_both, ask, plain_both}
+use Rattle.calls_players.specs.Second.{open_answer_as, opened_as, verdict_as}
+use Rattle.calls_players.specs.Both.{Pair, first_of, second_of, both_answer, both_leaves, Session, first, second, operation_of, Move, edit, of_first, of_second, open_first, open_second, Reply, call_of, first_verdict, second_verdict_of, edit_verdict, perform_both, ask, plain_both}
 
 -- an operation that writes nothing
 unfoldable pub Reads : Operation → Type 0

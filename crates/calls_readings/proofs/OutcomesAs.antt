@@ -7,14 +7,13 @@ use lib.ListN.{length}
 use native.Mathlib.Omega.{arith}
 use Rattle.num_tables.specs.Parts.{row}
 use Rattle.osu_records.specs.Rows.{record_at}
-use Rattle.chart_opening.specs.Limits.{settings_size}
-use Rattle.chart_opening.specs.Header.{layout_of, settings_of, settings_at}
+use Rattle.chart_opening.specs.Header.{settings_at}
 use Rattle.chart_opening.specs.declared.Settings.{Settings}
 use Rattle.chart_opening.specs.declared.Refusal.{Refusal}
 use Rattle.chart_opening.specs.declared.Verdict.TheVariants.{Accepted, Refused}
 use Rattle.chart_players.specs.Second.{under, second_verdict}
 use Rattle.chart_players.specs.Under.{framed_under}
-use Rattle.chart_players.specs.Verdicts.{Passed, second_accepted, settings_are}
+use Rattle.chart_players.proofs.Verdicts.{Passed, second_accepted, settings_are}
 use Rattle.calls.specs.Tables.{value_width, record_entries, value_entries}
 use Rattle.calls.specs.Afresh.{Detail, aim_parts, detail_of, detail_from}
 use Rattle.calls.specs.Conditions.{read_record, read_values, read_detail, read_verdict, refusal}

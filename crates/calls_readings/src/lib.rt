@@ -119,7 +119,7 @@ pub fn read_record(chart: &[u8], records: &[f64], place: usize) -> RecordAnswer
 
 // The record of a place, as the table has it, for the second player.
 pub fn read_record_as(chart: &[u8], settings: &[u8], records: &[f64], place: usize) -> RecordAnswer
-    ensures records_value { outcome_with (record_answer result) chart.now records.now []
+    ensures { outcome_with (record_answer result) chart.now records.now []
         ≡ outcome_as settings.now (ops.read_record place) (state chart.now records.now []) }
 {
     match check_reading_as(chart, settings, records.len(), calls::RECORD_WIDTH, place) {
@@ -141,7 +141,7 @@ pub fn read_values(chart: &[u8], values: &[f64], place: usize) -> ValuesAnswer
 
 // The values of a place, as the table has them, for the second player.
 pub fn read_values_as(chart: &[u8], settings: &[u8], values: &[f64], place: usize) -> ValuesAnswer
-    ensures values_value { outcome_with (values_answer result) chart.now [] values.now
+    ensures { outcome_with (values_answer result) chart.now [] values.now
         ≡ outcome_as settings.now (ops.read_values place) (state chart.now [] values.now) }
 {
     match check_reading_as(chart, settings, values.len(), calls::VALUE_WIDTH, place) {
@@ -179,7 +179,7 @@ pub fn read_aim_parts(chart: &[u8], records: &[f64], place: usize) -> AimAnswer
 
 // Aim's value at a place with its parts, from the records of the table, for the second player.
 pub fn read_aim_parts_as(chart: &[u8], settings: &[u8], records: &[f64], place: usize) -> AimAnswer
-    ensures records_value { outcome_with (aim_answer result) chart.now records.now []
+    ensures { outcome_with (aim_answer result) chart.now records.now []
         ≡ outcome_as settings.now (ops.read_detail details.aim_parts place) (state chart.now records.now []) }
 {
     match check_reading_as(chart, settings, records.len(), calls::RECORD_WIDTH, place) {
@@ -213,7 +213,7 @@ pub fn read_rhythm(chart: &[u8], records: &[f64], place: usize) -> RhythmAnswer
 
 // The rhythm value of a place, and how often an island was compared with a kept one for it, from the records of the table, for the second player.
 pub fn read_rhythm_as(chart: &[u8], settings: &[u8], records: &[f64], place: usize) -> RhythmAnswer
-    ensures records_value { outcome_with (rhythm_answer result) chart.now records.now []
+    ensures { outcome_with (rhythm_answer result) chart.now records.now []
         ≡ outcome_as settings.now (ops.read_detail details.rhythm place) (state chart.now records.now []) }
 {
     match check_reading_as(chart, settings, records.len(), calls::RECORD_WIDTH, place) {

@@ -8,7 +8,7 @@ use lib.Ieee.{Float}
 use lib.ListN.{length, take, drop, get_or, drop_of_length-le}
 use lib.Seq.{drop-cons}
 use Rattle.num_tables.specs.Parts.{row, put, fill}
-use Rattle.num_tables.specs.Rows.{fill_suc}
+use Rattle.num_tables.proofs.Rows.{fill_suc}
 use Rattle.chart_opening.specs.Header.{layout_of, settings_of}
 use Rattle.skills.specs.Chart as Chart
 use Rattle.skills.specs.declared.Skills.{Skills}

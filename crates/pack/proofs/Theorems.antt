@@ -26,7 +26,7 @@ use Rattle.pack_order.specs.Laws.{chart_compares, chart_exact, chart_ties, chart
 use Rattle.pack_order.specs.Sort.{All}
 use Rattle.pack_order.specs.Listing.{most_charts, Inside, is_inside, chart_at}
 use Rattle.pack_order.proofs.Lies.{is_inside_lem}
-use Rattle.pack.specs.Pack.{fresh_totals, key_of, chart_verdict, listed_verdict, rank_verdict, Tables, tables, tables_of, opened_into, tables_after, Buffers, buffers, rank_answer, ranked_buffers, rank_leaves}
+use Rattle.pack.specs.Pack.{fresh_totals, key_of, chart_verdict, listed_verdict, rank_verdict, Tables, tables_of, opened_into, tables_after, Buffers, buffers, rank_answer, ranked_buffers, rank_leaves}
 use Rattle.pack.specs.Statement.{Ordered, Numbers, Listed, open_all, Answered, Parts, Claims, listing_of}
 use Rattle.pack.proofs.Checks.{rateable, lies, stops, too_many}
 use Rattle.pack.proofs.Lists.{refused_leaves, carried_leaves, all_pass}

@@ -1,0 +1,54 @@
+-- `calls_figures::totals_as` meets its contract. Assumes nothing.
+use mathlib.Core.Path.{refl, sym, ap, ◌∙◌}
+use mathlib.Core.List.{[]}
+use native.Mathlib.Omega.{arith}
+use lib.ListN.{length}
+use Rattle.chart_opening.specs.Header.{layout_of}
+use Rattle.chart_opening.specs.Conditions.{first_of}
+use Rattle.chart_opening.specs.declared.Settings.{Settings}
+use Rattle.skills.specs.Chart as Chart
+use Rattle.skills.specs.declared.Skills.{Skills}
+use Rattle.calls.specs.Afresh.{totals, totals_are, totals_of, figure_of}
+use Rattle.calls.specs.Conditions.{lengths, asked_conditions}
+use Rattle.calls.specs.Calls.{figure_is, outcome_with}
+use Rattle.calls_figures.specs.Answers.{scratch_of}
+use Rattle.calls_figures.proofs.Outcomes.{sums, sized, refused_by_sums, worked_out}
+use Rattle.calls_figures.proofs.totals_as.Goals as goal
+
+pub settings_at-clock-requires : goal.settings_at-clock-requires
+settings_at-clock-requires c =
+    let a = c.args in
+    omega (
+      arith,
+      sized a.settings.now a.chart.now (length a.values.now) (lengths (scratch_of a.aim.now a.aim_no_sliders.now a.speed.now a.flashlight.now))
+          (sym c.check_lent.ensures ∙ c.in-Accepted.is),
+    )
+
+pub totals_of-t-requires : goal.totals_of-t-requires
+totals_of-t-requires c =
+    let a = c.args in
+    sums a.settings.now a.chart.now (length a.values.now) (lengths (scratch_of a.aim.now a.aim_no_sliders.now a.speed.now a.flashlight.now))
+    (sym c.check_lent.ensures ∙ c.in-Accepted.is)
+
+pub returns-in-Refused : goal.returns-in-Refused
+returns-in-Refused c =
+    let a = c.args in
+    let h = refused_by_sums totals a.settings.now a.chart.now a.values.now (scratch_of a.aim.now a.aim_no_sliders.now a.speed.now a.flashlight.now) _
+    (sym c.check_lent.ensures ∙ c.in-Refused.is) in
+    record {
+      answer = sym h.0;
+      scratch = sym h.1;
+    }
+
+pub returns-in-Accepted : goal.returns-in-Accepted
+unfolding asked_conditions first_of figure_of totals_of
+returns-in-Accepted c =
+    let a = c.args in
+    let h = worked_out totals a.settings.now a.chart.now a.values.now (scratch_of a.aim.now a.aim_no_sliders.now a.speed.now a.flashlight.now)
+    (sym c.check_lent.ensures ∙ c.in-Accepted.is) refl in
+    let t = c.totals_of-t.ensures in
+    let r = t.result ∙ ap (λ (s : Settings). Chart.totals_of a.chart.now (layout_of a.chart.now) s.clock_rate a.values.now) c.settings_at-clock.ensures in
+    record {
+      answer = ap (λ (y : Skills). outcome_with (figure_is (totals_are y)) a.chart.now [] a.values.now) r ∙ sym h.0;
+      scratch = t.scratch ∙ sym h.1;
+    }

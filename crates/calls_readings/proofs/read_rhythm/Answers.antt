@@ -1,0 +1,30 @@
+-- `calls_readings::read_rhythm` meets its contract. Assumes nothing.
+use mathlib.Core.Path.{sym, ap, ◌∙◌}
+use mathlib.Core.List.{[]}
+use Rattle.chart_opening.specs.declared.Settings.{Settings}
+use Rattle.chart_opening.proofs.Header.{framed}
+use Rattle.calls.specs.Afresh.{rhythm, detail_from}
+use Rattle.calls.specs.Calls.{detail_is, outcome_with}
+use Rattle.calls_readings.proofs.Outcomes.{detail_refused, detail_read, in_table}
+use Rattle.calls_readings.proofs.read_rhythm.Goals as goal
+
+pub settings_at-set-requires : goal.settings_at-set-requires
+settings_at-set-requires c =
+    let a = c.args in
+    (framed _ (in_table a.chart.now a.records.now a.place (sym c.check_reading.ensures ∙ c.in-Accepted.is)).frame).long
+
+pub rhythm_at-requires : goal.rhythm_at-requires
+rhythm_at-requires c =
+    let a = c.args in
+    in_table a.chart.now a.records.now a.place (sym c.check_reading.ensures ∙ c.in-Accepted.is)
+
+pub returns-in-Refused : goal.returns-in-Refused
+returns-in-Refused c =
+    let a = c.args in
+    sym (detail_refused a.chart.now a.records.now a.place rhythm _ (sym c.check_reading.ensures ∙ c.in-Refused.is))
+
+pub returns-in-Accepted : goal.returns-in-Accepted
+returns-in-Accepted c =
+    let a = c.args in
+    (λ i. outcome_with (detail_is ((c.rhythm_at.ensures ∙ ap (λ (x : Settings). detail_from rhythm x a.chart.now a.records.now a.place) c.settings_at-set.ensures) i)) a.chart.now a.records.now [])
+    ∙ sym (detail_read a.chart.now a.records.now a.place rhythm (sym c.check_reading.ensures ∙ c.in-Accepted.is))

@@ -1,0 +1,24 @@
+-- `calls_readings::read_values` meets its contract. Assumes nothing.
+use mathlib.Core.Path.{sym, ◌∙◌}
+use mathlib.Core.List.{[]}
+use native.Mathlib.Omega.{arith}
+use Rattle.calls.specs.Calls.{values_are, outcome_with}
+use Rattle.calls.proofs.Refusals.{accepted_read}
+use Rattle.calls_readings.proofs.Outcomes.{values_refused, values_read}
+use Rattle.calls_readings.proofs.read_values.Goals as goal
+
+pub row_at-requires : goal.row_at-requires
+row_at-requires c =
+    let d = accepted_read _ _ _ (sym c.check_reading.ensures ∙ c.in-Accepted.is) in
+    omega (arith, d.room, d.below)
+
+pub returns-in-Refused : goal.returns-in-Refused
+returns-in-Refused c =
+    let a = c.args in
+    sym (values_refused a.chart.now a.values.now a.place _ (sym c.check_reading.ensures ∙ c.in-Refused.is))
+
+pub returns-in-Accepted : goal.returns-in-Accepted
+returns-in-Accepted c =
+    let a = c.args in
+    (λ i. outcome_with (values_are (c.row_at.ensures i)) a.chart.now [] a.values.now)
+    ∙ sym (values_read a.chart.now a.values.now a.place (sym c.check_reading.ensures ∙ c.in-Accepted.is))
