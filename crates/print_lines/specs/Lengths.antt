@@ -1,7 +1,7 @@
 -- How long the lister's lines are at most. Assumes nothing.
 use Rattle.std.specs.Prelude.{ℕ, ◌+◌, ◌*◌, ◌≤◌, ◌≡◌, refl, List, [], ◌∷◌, Float, length}
 use Rattle.std.proofs.Common.{arith, length-append}
-use Rattle.print_text.specs.Lengths.{decimal_length, f64_length}
+use Rattle.print_text.proofs.Lengths.{decimal_length, f64_length}
 use Rattle.skills.specs.declared.Skills.{Skills}
 use Rattle.skills_counts.specs.declared.ObjectCounts.{ObjectCounts}
 use Rattle.print_lines.specs.Lines.{number_text, numbers_text, refusal_text, count_text, place_text, skills_text, totals_text, count_numbers, counts_text}

@@ -1,10 +1,10 @@
 -- What the calls answer on a chart within the limit: opening as conditions 1 to 6 say, readings, totals and counts what the filled table holds.
 -- Assumes nothing.
-use Prim.Native.Nat.{ℕ, ◌+◌, ◌*◌, ◌/◌, ◌≤◌, ◌<◌}
+use Prim.Native.Nat.{ℕ, ◌*◌, ◌/◌, ◌≤◌, ◌<◌}
 use native.Mathlib.Nat.{mul-le-mul, le_refl}
 use native.Mathlib.Omega.{arith}
 use mathlib.Core.Path.{◌≡◌, refl, sym, ap, ◌∙◌, subst}
-use mathlib.Core.Bool.{Bool, false, ◌||◌}
+use mathlib.Core.Bool.{false}
 use mathlib.Core.List.{List, []}
 use borrow.Author.Tests.{lt-ltb, le-ltb}
 use lib.Ieee.{Float}
@@ -24,8 +24,7 @@ use Rattle.skills_counts.specs.declared.ObjectCounts.{ObjectCounts}
 use Rattle.calls.specs.Tables.{record_width, value_width}
 use Rattle.calls.specs.Afresh.{Figure, totals, counts, totals_are, counts_are, figure_of, fresh_figure}
 use Rattle.calls.specs.Conditions.{Scratch, lengths, scratch_short, read_values, figure, row_conditions, read_conditions, asked_conditions, opening, refusal}
-use Rattle.calls.specs.Calls.{Answer, refused, values_are, figure_is, State, state, opened, open_answer, open_leaves, execute, verdict_in, outcome}
-use Rattle.calls.specs.Statement.{Fresh}
+use Rattle.calls.specs.Calls.{refused, values_are, figure_is, State, state, opened, open_answer, open_leaves, execute, verdict_in, outcome}
 use Rattle.calls.proofs.Refusals.{opening_none, figure_accepted}
 use Rattle.calls.proofs.Locality.{open_fresh, open_values_length, figure_local}
 use Rattle.calls.proofs.Alone.{carried_out}

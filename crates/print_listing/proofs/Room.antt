@@ -3,7 +3,7 @@ use Prim.Native.Nat.{ℕ, zero, suc, ◌+◌, ◌-◌, ◌*◌, ◌≤◌, ◌<�
 use native.Mathlib.Omega.{arith}
 use mathlib.Core.Path.{◌≡◌, refl, sym, ap, ◌∙◌}
 use mathlib.Core.Bool.{Bool, true, false, cond}
-use mathlib.Core.List.{List, [], ◌++◌}
+use mathlib.Core.List.{List, ◌++◌}
 use borrow.Author.Tests.{ltb-false, lt-ltb, le-ltb}
 use lib.Dec.{ltb}
 use lib.Ieee.{Float}
@@ -11,8 +11,7 @@ use lib.ListN.{length, take, drop, length-append}
 use lib.Seq.{take_at}
 use Rattle.print_text.specs.Buffer.{Puts, then, same_text, fits, length_kept}
 use Rattle.num_tables.specs.Parts.{row}
-use Rattle.chart_opening.specs.Header.{layout_of, settings_of}
-use Rattle.skills.specs.declared.Skills.{Skills}
+use Rattle.chart_opening.specs.Header.{layout_of}
 use Rattle.print_lines.specs.Lines.{place_text, totals_text, counts_text, count_text, refusal_text}
 use Rattle.print_lines.specs.Lengths.{refusal_length, count-length, place_length, totals_length, counts_length}
 use Rattle.eval_values.specs.Laws.{values_width}

@@ -1,5 +1,5 @@
 -- A call that is carried out had room for what it writes; one that is refused writes nothing. Assumes nothing.
-use Prim.Native.Nat.{ℕ, ◌*◌, ◌/◌, ◌%◌, ◌<◌, ◌≤◌}
+use Prim.Native.Nat.{ℕ, ◌<◌, ◌≤◌}
 use mathlib.Core.Path.{◌≡◌, refl, sym, ap, ◌∙◌}
 use mathlib.Core.Bool.{Bool, true, false, cond, ◌||◌}
 use mathlib.Core.List.{List, [], ◌∷◌}
@@ -24,11 +24,11 @@ use Rattle.eval_rhythm.proofs.Bounded.{comparisons_bounded}
 use Rattle.calls.specs.Tables.{value_entries}
 use Rattle.calls.specs.Afresh.{Record, count, object, rhythm, Finding, rhythm_is, detail_of, Figure, Amount}
 use Rattle.calls.specs.Conditions.{Scratch, lengths, scratch_short, Operation, read_detail, figure, sum_conditions, sum_verdict, asked_conditions, figure_conditions, figure_verdict, refusal}
-use Rattle.calls.specs.Calls.{Answer, refused, record_is, values_are, detail_is, figure_is, Outcome, State, state, outcome_with, refuse, execute, verdict_in, outcome, cleared, scratch_after}
+use Rattle.calls.specs.Calls.{Answer, refused, record_is, values_are, detail_is, figure_is, Outcome, State, state, outcome_with, refuse, execute, verdict_in, outcome, cleared}
 use Rattle.calls.proofs.Refusals.{sum_refused, sum_passed}
 use Rattle.chart_players.specs.Second.{under, second_verdict}
 use Rattle.chart_players.specs.Under.{own_length, under_own}
-use Rattle.chart_players.specs.Verdicts.{first_append, second_header, second_passed, second_then, second_accepted, refused_first}
+use Rattle.chart_players.proofs.Verdicts.{first_append, second_header, second_passed, second_then, second_accepted, refused_first}
 use Rattle.calls_players.specs.Second.{seen, verdict_as, outcome_as, scratch_after_as}
 use Rattle.calls_players.specs.Statement.{Reads}
 use Rattle.calls_players.proofs.Own.{outcome_short, seen_own, own_outcome}

@@ -8,7 +8,7 @@ use Rattle.chart_opening.specs.declared.Refusal.{Refusal}
 use Rattle.chart_opening.specs.declared.Refusal.TheVariants.{Header, Table}
 use Rattle.chart_opening.specs.declared.Verdict.{Verdict}
 use Rattle.chart_opening.specs.declared.Verdict.TheVariants.{Accepted, Refused}
-use Rattle.num_floats.specs.Numbers.{f64, zero64, one64, two64, three64}
+use Rattle.num_floats.specs.Numbers.{zero64, one64, two64, three64}
 use Rattle.osu_records.specs.Rows.{row_of}
 use Rattle.eval_aim.specs.declared.AimRule.{AimRule}
 use Rattle.eval_aim.specs.declared.AimRule.TheVariants.{TooFew, Spinner, Acute, Wide}

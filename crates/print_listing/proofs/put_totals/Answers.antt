@@ -1,0 +1,24 @@
+-- `print_listing::put_totals` meets its contract: totals are carried out. Assumes nothing.
+use mathlib.Core.Path.{refl, sym, ap, ◌∙◌}
+use Rattle.print_text.specs.Buffer.{same_text}
+use Rattle.chart_opening.specs.Conditions.{first_of}
+use Rattle.calls.specs.Afresh.{totals}
+use Rattle.calls.specs.Conditions.{asked_conditions}
+use Rattle.calls.specs.Calls.{Outcome}
+use Rattle.print_lines.specs.Lines.{totals_text}
+use Rattle.calls_figures.specs.Answers.{scratch_of, totals_answer}
+use Rattle.print_listing.proofs.Calls.{figure_carried_out, totals_are_lem}
+use Rattle.print_listing.proofs.put_totals.Goals as goal
+
+pub returns-in-Refused : goal.returns-in-Refused
+unfolding asked_conditions first_of
+returns-in-Refused c =
+    let a = c.args in
+    let m = c.requires in
+    absurd (figure_carried_out a.chart.now a.values.now m.0 (scratch_of a.aim.now a.aim_no_sliders.now a.speed.now a.flashlight.now) m.1 totals refl _ (ap totals_answer (sym c.in-Refused.is) ∙ ap (λ (x : Outcome). x.answer) c.totals.ensures.answer))
+
+pub returns-in-Totals : goal.returns-in-Totals
+returns-in-Totals c =
+    let a = c.args in
+    let m = c.requires in
+    same_text (ap totals_text (totals_are_lem a.chart.now a.values.now m.0 (scratch_of a.aim.now a.aim_no_sliders.now a.speed.now a.flashlight.now) m.1 _ (ap totals_answer (sym c.in-Totals.is) ∙ ap (λ (x : Outcome). x.answer) c.totals.ensures.answer))) c.put_totals.ensures

@@ -1,0 +1,24 @@
+-- `print_listing::put_within` meets its contract: the tables are long enough, so that opening answers by conditions 1 to 6. Assumes nothing.
+use Rattle.print_text.specs.Buffer.{same_text}
+use Rattle.print_listing.proofs.Calls.{refused_text, accepted_text, accepted_filled}
+use Rattle.print_listing.proofs.put_within.Goals as goal
+
+pub put_opened-requires : goal.put_opened-requires
+put_opened-requires c =
+    let a = c.args in
+    let m = c.requires.chart_len_bound in (
+      accepted_filled a.chart.now a.records.now a.values.now m.0 m.1 _ c.in-Accepted.is c.open.ensures.answer _ c.open.ensures.leaves,
+      c.requires.scratch_room,
+    )
+
+pub returns-in-Refused : goal.returns-in-Refused
+returns-in-Refused c =
+    let a = c.args in
+    let m = c.requires.chart_len_bound in
+    same_text (refused_text a.chart.now a.records.now a.values.now m.0 m.1 _ _ c.in-Refused.is c.open.ensures.answer) c.put_refusal.ensures
+
+pub returns-in-Accepted : goal.returns-in-Accepted
+returns-in-Accepted c =
+    let a = c.args in
+    let m = c.requires.chart_len_bound in
+    same_text (accepted_text a.chart.now a.records.now a.values.now m.0 m.1 _ c.in-Accepted.is c.open.ensures.answer) c.put_opened.ensures

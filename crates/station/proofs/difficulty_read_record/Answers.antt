@@ -1,0 +1,34 @@
+-- `station::difficulty_read_record` meets its contract. Assumes nothing.
+use mathlib.Core.Path.{sym, ap, ◌∙◌}
+use native.Mathlib.Omega.{arith}
+use lib.ListN.{length}
+use Rattle.num_tables.specs.Parts.{put}
+use Rattle.calls.specs.Calls.{Answer, Outcome}
+use Rattle.calls_readings.specs.Answers.{record_answer}
+use Rattle.station.specs.Codes.{answer_code, numbers_of}
+use Rattle.station.proofs.Rooms.{put_none, into_room, no_record}
+use Rattle.station.proofs.difficulty_read_record.Goals as goal
+
+pub put_record-requires : goal.put_record-requires
+put_record-requires c =
+    let a = c.args in
+    let p = sym (ap record_answer c.in-Record.is) ∙ ap (λ (x : Outcome). x.answer) c.record_into.ensures in
+    (omega arith, omega (arith, into_room 16 (length a.out.now) _ _ _ (no_record _) p))
+
+pub returns-in-Refused : goal.returns-in-Refused
+returns-in-Refused c =
+    let a = c.args in
+    let p = sym (ap record_answer c.in-Refused.is) ∙ ap (λ (x : Outcome). x.answer) c.record_into.ensures in
+    record {
+      answer = c.code.ensures ∙ ap answer_code p;
+      out = put_none a.out.now ∙ ap (λ (x : Answer). put 0 (numbers_of x) a.out.now) p;
+    }
+
+pub returns-in-Record : goal.returns-in-Record
+returns-in-Record c =
+    let a = c.args in
+    let p = sym (ap record_answer c.in-Record.is) ∙ ap (λ (x : Outcome). x.answer) c.record_into.ensures in
+    record {
+      answer = ap answer_code p;
+      out = c.put_record.ensures ∙ ap (λ (x : Answer). put 0 (numbers_of x) a.out.now) p;
+    }

@@ -1,0 +1,15 @@
+-- `station::put_ratings` meets its contract. Assumes nothing.
+use lib.ListN.{length-set}
+use native.Mathlib.Omega.{arith}
+use Rattle.num_tables.proofs.Rows.{sets_put}
+use Rattle.station.specs.Codes.{ratings_row}
+use Rattle.station.proofs.put_ratings.Goals as goal
+
+pub bounds-out-1 : goal.bounds-out-1
+bounds-out-1 c = simp length-set (omega arith)
+
+pub bounds-out-2 : goal.bounds-out-2
+bounds-out-2 c = simp length-set (omega arith)
+
+pub returns : goal.returns
+returns c = sets_put (ratings_row c.args.r) c.args.out.now 0 c.requires
