@@ -45,7 +45,7 @@ fn gathered(aim: f64, aim_no_sliders: f64, speed: f64, rhythm: f64, flashlight: 
     }
 }
 
-// The five values of place j by the outer entries, over the first m of the records: it lends its own array, so its callers need no walk.
+// The five values of place j by the outer entries, over the first m of the records.
 fn values_of_array(
     chart: &[u8],
     records: [OsuDifficultyObject; 64],

@@ -1,0 +1,10 @@
+-- `test_records::run` meets its contract: the buffers keep their lengths. Assumes nothing.
+use mathlib.Core.Path.{◌≡◌}
+use lib.ListN.{length}
+use Rattle.test_records.proofs.run.Given as goal
+
+abbrev pub invariant-loop-left : goal.invariant-loop-left
+invariant-loop-left l = (length l.out ≡ length l.initial.out) × (length l.chart ≡ length l.initial.chart) × (length l.t ≡ length l.initial.t)
+
+abbrev pub decreases-loop-left : goal.decreases-loop-left
+decreases-loop-left l = l.left
