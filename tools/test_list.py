@@ -34,19 +34,23 @@ COUNTS = ["counts",
           "relevant notes                              1.1"]
 ASKED = ("--stars", "hidden,flashlight", "--ar", "9.5", "--od", "8", "--base", "1.14")
 STARS = ["aim rating         0.0", "speed rating       0.07401459479141512", "flashlight rating  0.0", "stars              0.14652041190236825"]  # of examples/two_circles.txt, by the oracle
-# Links first, and leaves the stamp last, as rt does.
+# As `rt run` does, it links what is proved and then runs it, here with status 1.
 RT = """#!/bin/sh
-echo "$@" >> calls
+crate=${PWD##*/}
+cd ../..
+echo "$@ $crate" >>calls
+exec 2>&1
 echo "library floats: modules loaded=4 checked=0"
-mkdir -p target/bin target/stamp
-rm -f target/stamp/$2
-for crate in floats text; do echo "rt: $crate proved (unchanged since it was last proved)"; done
-printf '#!/bin/sh\\ncat >read\\ncat %s/lines\\n' "$PWD" >target/bin/$2
-chmod +x target/bin/$2
+echo "rt: chose --jobs 2 for $crate"
 [ ! -e slow ] || { sleep 60 & echo $! >child; wait; }
-[ ! -e fails ] || { echo "rt: $2 NOT PROVED (exit 1, 3 s)"; exit 1; }
-echo "rt: $2 proved (3 s)"
-echo stamp >target/stamp/$2
+[ ! -e fails ] || { echo "logic=not-proved"; exit 1; }
+echo "logic=proved functions=1"
+mkdir -p crates/$crate/out
+printf '#!/bin/sh\\ncat >read\\ncat %s/lines\\n' "$PWD" >crates/$crate/out/$crate
+chmod +x crates/$crate/out/$crate
+echo "rt: running out/$crate; to give it other input, run that file yourself"
+echo "refused 1 0"
+exit 1
 """
 
 
@@ -98,7 +102,7 @@ class Command(unittest.TestCase):
     def setUp(self):
         self.folder = tempfile.mkdtemp()
         self.addCleanup(shutil.rmtree, self.folder)
-        for name in ("list", "chart.py"):
+        for name in ("list", "built.py", "chart.py"):
             os.makedirs(self.at("tools"), exist_ok=True)
             shutil.copy(os.path.join(TOOLS, name), self.at("tools"))
         for crate in ("floats", "other", "text", "lister", "rater"):
@@ -149,9 +153,9 @@ class Command(unittest.TestCase):
         status, out, told = self.listed()
         self.assertEqual((status, out), (0, LINES))
         self.assertRegex(told[0], r"of 3 crates.* minutes.*target/list\.log")
-        self.assertEqual(told[1:], ["3 of 3 lister, 3 s"])
+        self.assertRegex("\n".join(told[1:]), r"\A3 of 3 lister, \d+ s\Z")
         self.assertIn("library floats: modules loaded=4", self.read("target/list.log"))
-        self.assertEqual(self.read("calls"), "check lister\n")
+        self.assertEqual(self.read("calls"), "run lister\n")
         self.assertEqual(self.listed(), (0, LINES, []))
         self.assertEqual(self.builds(), 1)
 
@@ -163,7 +167,7 @@ class Command(unittest.TestCase):
         self.assertEqual(self.builds(), 1)
         changes = (lambda: os.utime(self.at("crates.txt")), lambda: os.utime(self.at("crates", "floats", "src", "lib.rt")),
                    lambda: self.write("crates/text/specs/New.antt", ""), lambda: os.remove(self.at("crates", "text", "specs", "New.antt")),
-                   lambda: os.remove(self.at("target", "bin", "lister")), lambda: os.remove(self.at("target", "stamp", "lister")))
+                   lambda: os.remove(self.at("crates", "lister", "out", "lister")))
         for k, change in enumerate(changes):
             time.sleep(0.02)  # a file's time may lag behind the clock
             change()
@@ -173,7 +177,7 @@ class Command(unittest.TestCase):
         self.write("fails", "")
         for _ in range(2):
             status, out, told = self.listed()
-            self.assertEqual((status, out, told[1]), (1, "", "rt: lister NOT PROVED (exit 1, 3 s)"))
+            self.assertEqual((status, out, told[1]), (1, "", "lister NOT PROVED"))
             self.assertIn("target/list.log", told[2])
         os.remove(self.at("fails"))
         self.assertEqual(self.listed()[:2], (0, LINES))
@@ -194,9 +198,8 @@ class Command(unittest.TestCase):
             self.assertFalse(runs(int(self.read("child"))))
             os.remove(self.at("slow"))
             os.remove(self.at("child"))
-            self.assertTrue(os.path.exists(self.at("target", "bin", "lister")))
-            self.assertEqual(self.listed()[2][1:], ["3 of 3 lister, 3 s"])
-            os.remove(self.at("target", "stamp", "lister"))
+            self.assertRegex("\n".join(self.listed()[2][1:]), r"\A3 of 3 lister, \d+ s\Z")
+            os.remove(self.at("crates", "lister", "out", "lister"))
 
     def test_no_rt(self):
         os.remove(self.at("kit", "rt"))
@@ -231,7 +234,7 @@ class Command(unittest.TestCase):
         status, out, told = self.listed(*ASKED, "--start-scale", "2", "a.chart")
         self.assertEqual((status, out.splitlines()), (0, ["aim rating         2.0", "speed rating       1.5", "flashlight rating  0.0", "stars              3.141592653589793"]))
         self.assertRegex(told[0], "The rater is built")
-        self.assertEqual(self.read("calls"), "check rater\n")
+        self.assertEqual(self.read("calls"), "run rater\n")
         with open(self.at("read"), "rb") as file:
             self.assertEqual(file.read(), struct.pack("<II5d", 1 << 4 | 1 << 3, 2, 9.5, 8.0, 1.14, 0.0, 2.0) + b"any bytes")
         self.listed("--stars", "none", *ASKED[2:], "--attraction", "-0.5", "a.chart")
@@ -245,7 +248,7 @@ class Command(unittest.TestCase):
         self.assertEqual((status, out, told[0]), (1, "", "the rater's lines are not whole:"))
 
 
-@unittest.skipUnless(script().is_built(script().needed()), "the lister is not built, or older than its sources")
+@unittest.skipUnless(script().built.is_built("lister"), "the lister is not built, or older than its sources")
 class Lister(unittest.TestCase):
     def listed(self, name, data=None, words=()):
         p = subprocess.run([os.path.join(TOOLS, "list"), *words, name], input=data, capture_output=True)
@@ -266,7 +269,7 @@ class Lister(unittest.TestCase):
         self.assertEqual(self.listed("-", b""), ("refused 1 0\n", "1: the chart has 0 bytes, its header alone takes 80\n"))
 
 
-@unittest.skipUnless(script().is_built(script().needed("rater"), "rater"), "the rater is not built, or older than its sources")
+@unittest.skipUnless(script().built.is_built("rater"), "the rater is not built, or older than its sources")
 class Rater(unittest.TestCase):
     def rated(self, name, *words, data=None):
         p = subprocess.run([os.path.join(TOOLS, "list"), *words, name], input=data, capture_output=True)
