@@ -257,7 +257,7 @@ pub record Lowest (test : ℕ → Bool) (n j : ℕ) : Type 0 where
   pub offends : test j ≡ true
   pub none_lower : (i : ℕ) → i < j → test i ≡ false
 
--- the place that a refusal of a chart's own conditions names; those without a place have 0 by `refusalPlace`
+-- the place that a refusal of a chart's own conditions names; those without a place have 0 by `refusal_place`
 abbrev pub Placed : List ℕ → Refusal → Type 0
 Placed b (Object j) = Lowest (bad_fields b (layout_of b)) (count b) j
 Placed b (Entries j) = Lowest (bad_entries b (layout_of b)) (count b) j

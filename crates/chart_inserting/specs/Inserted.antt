@@ -1,4 +1,4 @@
--- The buffer with an object put in: the object is there (`place-put`, `here`), the chart has it more and else the same (`one_more`), its header is right
+-- The buffer with an object put in: the object is there (`place_put`, `here`), the chart has it more and else the same (`one_more`), its header is right
 -- again (`header`), and bytes past its length are as they were (`rest`). Assumes nothing.
 use Rattle.std.specs.Prelude.{ℕ, ◌+◌, ◌-◌, ◌≤◌, ◌<◌, ◌≡◌, true, false, List, ltb, length, drop}
 use Rattle.std.proofs.Math.Path.{sym}

@@ -1,5 +1,5 @@
 -- What a list of conditions tells that is met nowhere, and what a chart tells that opens: the header, the settings, and that 3, 4 and 5 hold at no place
--- (`clean-body`). Assumes nothing.
+-- (`clean_body`). Assumes nothing.
 use Rattle.std.specs.Prelude.{ℕ, ◌≤◌, ◌<◌, ◌≡◌, refl, Bool, true, false, not, List, [], ◌∷◌, ◌++◌, ltb, Float}
 use Rattle.std.proofs.Common.{◌∙◌, arith}
 use borrow.Author.Tests.{ltb-false, le-ltb, not-false}

@@ -1,5 +1,5 @@
--- The chart with one object replaced: that object is the lent one (`place-put`, `here`), every other object (`place_kept`, `elsewhere`), the header with its settings
--- (`header-kept`, `layout`, `settings`, `header`) and what follows the objects (`rest-kept`, `entries`) are as they were. Assumes nothing.
+-- The chart with one object replaced: that object is the lent one (`place_put`, `here`), every other object (`place_kept`, `elsewhere`), the header with its settings
+-- (`header_kept`, `layout`, `settings`, `header`) and what follows the objects (`rest_kept`, `entries`) are as they were. Assumes nothing.
 use Rattle.std.specs.Prelude.{ℕ, ◌+◌, ◌*◌, ◌≤◌, ◌<◌, ◌≡◌, List, length, take, drop}
 use Rattle.std.proofs.Math.Decide.{dec_lt}
 use Rattle.std.proofs.Common.{le_refl, arith}

@@ -294,6 +294,7 @@ fn get_end_cursor_pos(o: Placed) -> Pos
 }
 
 // Where the cursor comes from. The object at place 0 has no record, so no lazy end.
+#[tactic(auto, unfolding(crate::specs::Record::last_cursor))]
 fn last_cursor_pos(j: usize, last: Placed) -> Pos
     ensures { result ≡ last_cursor j last }
 {

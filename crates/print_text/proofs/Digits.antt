@@ -1,4 +1,4 @@
--- Digits one by one: how the loops' texts grow, and that the digits of crate io are those of `decimalText`. Assumes nothing.
+-- Digits one by one: how the loops' texts grow, and that the digits of crate io are those of `decimal_text`. Assumes nothing.
 use Prim.Native.Nat.{ℕ, zero, suc, ◌+◌, ◌-◌, ◌*◌, ◌/◌, ◌%◌, ◌^◌, ◌≤◌, ◌<◌}
 use native.Mathlib.Nat.{div-one, sub-zero, mod-eq_of_lt, mod-lt, pow-succ', le-div_iff_mul-le, div-lt_iff_lt-mul, mul_comm}
 use native.Mathlib.Decide.{dec_le}

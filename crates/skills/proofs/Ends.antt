@@ -1,4 +1,4 @@
--- The bound on the number of sections is never the reason why `closeTo` stops: where every start is at most 400 × (q + 8191), q × 400 being the first
+-- The bound on the number of sections is never the reason why `close_to` stops: where every start is at most 400 × (q + 8191), q × 400 being the first
 -- section's end, each place's start is at most its section's end after the walk over that place. Assumes nothing.
 use Prim.Native.Nat.{ℕ, zero, suc, ◌+◌, ◌-◌, ◌*◌, ◌^◌, ◌≤◌}
 use native.Mathlib.Nat.{add-zero}

@@ -297,7 +297,7 @@ rate_at (fin false n d) h k = record {
   slow = le_trans (le_of_eq (sym (one-mul (down d)))) (le_cross 1 (negsuc 1) n d h);
 }
 
--- on every chart that passes `closeTo` never stops for its bound: before place j + 1 joins, its start isn't above its section's end
+-- on every chart that passes `close_to` never stops for its bound: before place j + 1 joins, its start isn't above its section's end
 pub enough : (n : ℕ) (times : ℕ → Float) (clock : Float) → Passes n times clock → (k : Skill) (starts strains : ℕ → Float) → ((j : ℕ) → 1 ≤ j → starts j ≡ times j ⊘ clock)
     → (j : ℕ) → suc j < n → lt (reached k starts strains (suc j) (walk k starts strains j)).end (starts (suc j)) ≡ false
 enough n times clock p k starts strains a j h =

@@ -103,7 +103,7 @@ initial_strain k strain start time = strain ⊗ strain_decay (time ⊖ start) (b
 
 -- ---- The section walk, over start times and strains by place
 
--- Sections that are closed before the last, at most. It makes the walk a total definition: on a chart that opens the walk never stops for it (`walk-settles`)
+-- Sections that are closed before the last, at most. It makes the walk a total definition: on a chart that opens the walk never stops for it (`walk_settles`)
 abbrev pub room : ℕ
 room = 8191
 

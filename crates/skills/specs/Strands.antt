@@ -7,7 +7,7 @@ use Rattle.skills.specs.declared.Strand.{Strand}
 use Rattle.skills.specs.Strains.{room, value_for, multiplier, joined, join}
 use Rattle.skills.specs.Shown.{shown, closed}
 
--- `strainNext` of what is left of the strain
+-- `strain_next` of what is left of the strain
 abbrev pub strain_by : Skill → Float → Float → List Float → Float
 strain_by k strain decay v = strain ⊗ decay ⊕ value_for k v ⊗ multiplier k
 

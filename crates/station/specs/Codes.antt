@@ -69,7 +69,7 @@ ratings_row r = r.aim ∷ r.speed ∷ r.flashlight ∷ r.stars ∷ []
 abbrev pub ratings_width : ℕ
 ratings_width = 4
 
--- totals while playing go into a list of their own (`listAfter`)
+-- totals while playing go into a list of their own (`list_after`)
 abbrev pub amount_row : Amount → List Float
 amount_row (totals_are t) = totals_row t
 amount_row (counts_are c) = counts_row c

@@ -1,4 +1,4 @@
--- `calls_editor::records_up` meets its contract; where nothing moves, `rowsUp-none`. Assumes nothing.
+-- `calls_editor::records_up` meets its contract; where nothing moves, `rows_up_none`. Assumes nothing.
 use mathlib.Core.Path.{sym}
 use native.Mathlib.Omega.{arith}
 use Rattle.num_tables.specs.Parts.{rows_up}

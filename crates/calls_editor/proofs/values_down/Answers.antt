@@ -1,4 +1,4 @@
--- `calls_editor::values_down` meets its contract; where nothing moves, `rowsDown-none`. Assumes nothing.
+-- `calls_editor::values_down` meets its contract; where nothing moves, `rows_down_none`. Assumes nothing.
 use mathlib.Core.Path.{sym}
 use native.Mathlib.Omega.{arith}
 use Rattle.num_tables.specs.Parts.{rows_down}

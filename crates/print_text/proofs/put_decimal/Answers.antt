@@ -1,4 +1,4 @@
--- `print_text::put_decimal` meets its contract: the digits of crate io are those of `decimalText`. Assumes nothing.
+-- `print_text::put_decimal` meets its contract: the digits of crate io are those of `decimal_text`. Assumes nothing.
 use mathlib.Core.Path.{◌∙◌}
 use Rattle.print_text.specs.Buffer.{same_text}
 use Rattle.print_text.proofs.Digits.{decimal_is}

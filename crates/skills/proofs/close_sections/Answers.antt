@@ -1,4 +1,4 @@
--- `skills::close_sections` meets its contract: a turn is one `closeOne`, and the counter is what `closeTo` counts. Assumes nothing.
+-- `skills::close_sections` meets its contract: a turn is one `close_one`, and the counter is what `close_to` counts. Assumes nothing.
 use borrow.Author.Rules.{rules}
 use mathlib.Core.Path.{refl}
 use Rattle.skills.proofs.Closing.{next, stop, full}

@@ -1,4 +1,4 @@
--- `skills::close_sections` meets its contract: a turn is one `closeOne`, and the counter is what `closeTo` counts. Assumes nothing.
+-- `skills::close_sections` meets its contract: a turn is one `close_one`, and the counter is what `close_to` counts. Assumes nothing.
 use Prim.Native.Nat.{◌-◌}
 use Rattle.skills.specs.Strains.{room, initial_strain}
 use Rattle.skills.proofs.Closing.{Closing}
