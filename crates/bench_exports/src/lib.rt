@@ -5,7 +5,7 @@ ghost use Rattle.std.specs.Prelude.{◌*◌, ◌≤◌, ◌<◌, length};
 ghost use Rattle.osu_object.specs.Osu.{Ready};
 
 use chart_fields::Layout;
-use chart_opening::{Settings, Verdict};
+use chart_opening::{Refusal, Settings};
 
 // log10 of the rules.
 #[unsafe(no_mangle)]
@@ -83,8 +83,8 @@ pub extern "C" fn rattle_to_i32(x: f64) -> i32 {
 #[unsafe(no_mangle)]
 pub extern "C" fn rattle_check(chart: &[u8], entries: usize) -> u64 {
     match chart_opening::check(chart, entries) {
-        Verdict::Accepted => 0,
-        Verdict::Refused(r) => code(r.number(), r.place()),
+        Ok(()) => 0,
+        Err(r) => code(r.number(), r.place()),
     }
 }
 
@@ -128,8 +128,8 @@ fn sum_values(which: usize, t: &[f64], chart: &[u8], lay: Layout, set: Settings)
 #[unsafe(no_mangle)]
 pub extern "C" fn rattle_evaluate(which: usize, chart: &[u8], records: &[f64]) -> f64 {
     match chart_opening::check(chart, records.len() / 16) {
-        Verdict::Refused(_) => 0.0,
-        Verdict::Accepted => {
+        Err(_) => 0.0,
+        Ok(()) => {
             let lay = chart_opening::layout_of(chart);
             let set = chart_opening::settings_at(chart, 32);
             sum_values(which, records, chart, lay, set)

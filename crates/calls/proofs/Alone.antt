@@ -1,5 +1,6 @@
 -- A call by itself, on any chart and any tables: what it leaves, and that the table which it doesn't borrow makes no difference; and that a call on the opening's
 -- own tables is admissible. Assumes nothing.
+use Rattle.std.specs.Prelude.{Ok, Err}
 use mathlib.Core.Path.{◌≡◌, refl, ap, subst⁻¹}
 use mathlib.Core.List.{List, [], ◌∷◌, map}
 use Prim.Native.Nat.{ℕ}
@@ -9,8 +10,7 @@ use native.Mathlib.Omega.{arith}
 use Rattle.chart_opening.specs.Header.{settings_of, chart_length}
 use Rattle.chart_opening.specs.Conditions.{if_accepted}
 use Rattle.chart_opening.specs.declared.Refusal.{Refusal}
-use Rattle.chart_opening.specs.declared.Verdict.{Verdict}
-use Rattle.chart_opening.specs.declared.Verdict.TheVariants.{Accepted, Refused}
+use Rattle.chart_opening.specs.Verdict.{Verdict}
 use Rattle.calls.specs.Simulation.{Throughout}
 use Rattle.calls.specs.Tables.{contents, table_after}
 use Rattle.calls.specs.Afresh.{Detail, Figure, count}
@@ -48,8 +48,8 @@ own_calls (a ∷ ops) st = ((λ e. own_tables a), own_calls ops (perform (own_ca
 
 answers_alike : (v : Verdict) (x y : State) (p q : Outcome) → p.answer ≡ q.answer → (if_accepted v p (refuse x)).answer ≡ (if_accepted v q (refuse y)).answer
 unfolding if_accepted refuse
-answers_alike Accepted x y p q e = e
-answers_alike (Refused r) x y p q e = refl
+answers_alike (Ok tt) x y p q e = e
+answers_alike (Err r) x y p q e = refl
 
 module _ (b : List ℕ) (rs vs : List Float) where
   abbrev both : State
@@ -83,22 +83,22 @@ module _ (a : Operation) (st : State) where
   by : Verdict → Outcome
   by v = if_accepted v (execute a st) (refuse st)
 
-  pub carried_out : verdict_in a st ≡ Accepted → outcome a st ≡ execute a st
+  pub carried_out : verdict_in a st ≡ Ok tt → outcome a st ≡ execute a st
   unfolding outcome by if_accepted
   carried_out e = ap by e
 
-  pub refused_as : (q : Refusal) → verdict_in a st ≡ Refused q → outcome a st ≡ refuse st q
+  pub refused_as : (q : Refusal) → verdict_in a st ≡ Err q → outcome a st ≡ refuse st q
   unfolding outcome by if_accepted
   refused_as q e = ap by e
 
   -- it stands where what it would leave does, and where nothing is changed
-  by_cases : (P : State → Type 0) → P st → (verdict_in a st ≡ Accepted → P (execute a st).leaves) → P (outcome a st).leaves
+  by_cases : (P : State → Type 0) → P st → (verdict_in a st ≡ Ok tt → P (execute a st).leaves) → P (outcome a st).leaves
   unfolding refuse
   by_cases P p f = go (verdict_in a st) refl
     where
       go : (v : Verdict) → verdict_in a st ≡ v → P (outcome a st).leaves
-      go Accepted e = subst⁻¹ (λ (x : Outcome). P x.leaves) (carried_out e) (f e)
-      go (Refused q) e = subst⁻¹ (λ (x : Outcome). P x.leaves) (refused_as q e) p
+      go (Ok tt) e = subst⁻¹ (λ (x : Outcome). P x.leaves) (carried_out e) (f e)
+      go (Err q) e = subst⁻¹ (λ (x : Outcome). P x.leaves) (refused_as q e) p
 
 pub record-reads : (k : ℕ) (st : State) → (outcome (read_record k) st).leaves ≡ st
 unfolding execute
@@ -137,7 +137,7 @@ writes (read_detail d k) st = subst⁻¹ (Written st) (detail_reads d k st) (out
 writes (figure f l) st = subst⁻¹ (Written st) (figure_reads f l st) (outside_refl (count st.chart) st)
 
 -- N after it
-pub counts : (a : Operation) (st : State) → verdict_in a st ≡ Accepted → count (execute a st).leaves.chart ≡ count_after a (count st.chart)
+pub counts : (a : Operation) (st : State) → verdict_in a st ≡ Ok tt → count (execute a st).leaves.chart ≡ count_after a (count st.chart)
 unfolding execute verdict_in edited put_in taken_out count_after
 counts (replace k o) st e = count_same k o st.chart (accepted_replace k o (length st.records) (length st.values) st.chart e).0
 counts (insert k o) st e = (inserted_more st.chart k o (accepted_insert k o (length st.records) (length st.values) st.chart e).0).counts
@@ -168,19 +168,19 @@ keeps (figure f l) st = subst⁻¹ (Keeps st) (figure_reads f l st) (refl, refl)
 -- ---- Opening
 
 module _ (st : State) where
-  opening_cases : (P : State → Type 0) → P st → (open_answer st ≡ Accepted → P (opened st)) → P (open_leaves st)
+  opening_cases : (P : State → Type 0) → P st → (open_answer st ≡ Ok tt → P (opened st)) → P (open_leaves st)
   unfolding open_leaves if_accepted
   opening_cases P p f = go (open_answer st) refl
     where
       go : (v : Verdict) → open_answer st ≡ v → P (if_accepted (open_answer st) (opened st) (λ r. st))
-      go Accepted e = subst⁻¹ (λ (w : Verdict). P (if_accepted w (opened st) (λ r. st))) e (f e)
-      go (Refused q) e = subst⁻¹ (λ (w : Verdict). P (if_accepted w (opened st) (λ r. st))) e p
+      go (Ok tt) e = subst⁻¹ (λ (w : Verdict). P (if_accepted w (opened st) (λ r. st))) e (f e)
+      go (Err q) e = subst⁻¹ (λ (w : Verdict). P (if_accepted w (opened st) (λ r. st))) e p
 
   pub opening_reads : (open_leaves st).chart ≡ st.chart
   unfolding opened
   opening_reads = opening_cases (λ x. x.chart ≡ st.chart) refl (λ e. refl)
 
-  pub opened_outside : open_answer st ≡ Accepted → Outside (count st.chart) st (opened st)
+  pub opened_outside : open_answer st ≡ Ok tt → Outside (count st.chart) st (opened st)
   unfolding opened open_answer
   opened_outside e =
       let (o, r) = opening_met (length st.records) (length st.values) st.chart e in
@@ -192,11 +192,11 @@ module _ (st : State) where
 -- ---- Scratch
 
 module _ (f : Figure) (x : Scratch) (st : State) where
-  pub scratch_cleared : verdict_in (figure f (lengths x)) st ≡ Accepted → scratch_after f st x
+  pub scratch_cleared : verdict_in (figure f (lengths x)) st ≡ Ok tt → scratch_after f st x
       ≡ record { aim = zeros x.aim; aim_no_sliders = zeros x.aim_no_sliders; speed = zeros x.speed; flashlight = zeros x.flashlight }
   unfolding scratch_after if_accepted cleared
   scratch_cleared e = ap (λ v. if_accepted v (cleared x) (λ r. x)) e
 
-  pub scratch_kept : (q : Refusal) → verdict_in (figure f (lengths x)) st ≡ Refused q → scratch_after f st x ≡ x
+  pub scratch_kept : (q : Refusal) → verdict_in (figure f (lengths x)) st ≡ Err q → scratch_after f st x ≡ x
   unfolding scratch_after if_accepted
   scratch_kept q e = ap (λ v. if_accepted v (cleared x) (λ r. x)) e

@@ -1,4 +1,5 @@
 -- The frame of a replacement, in any state and whatever tables it borrows. Assumes nothing.
+use Rattle.std.specs.Prelude.{Ok, Err}
 use mathlib.Core.Path.{◌≡◌, refl, ap, ◌∙◌, subst⁻¹}
 use mathlib.Core.List.{List}
 use Prim.Native.Nat.{ℕ, ◌+◌, ◌-◌, ◌≤◌, ◌<◌, min, max}
@@ -8,8 +9,7 @@ use lib.ListN.{length}
 use Rattle.num_tables.specs.Parts.{row}
 use Rattle.chart_opening.specs.Header.{layout_of, settings_of}
 use Rattle.chart_opening.specs.declared.Settings.{Settings}
-use Rattle.chart_opening.specs.declared.Verdict.{Verdict}
-use Rattle.chart_opening.specs.declared.Verdict.TheVariants.{Accepted, Refused}
+use Rattle.chart_opening.specs.Verdict.{Verdict}
 use Rattle.chart_replacing.specs.Replace.{put_object}
 use Rattle.chart_replacing.specs.Accepted.{Taken}
 use Rattle.skills.specs.Strains.{strains}
@@ -98,7 +98,7 @@ frame k o t u st = go (verdict_in (replace k o) (lent c st)) refl
     c = record { operation = replace k o; records = t; values = u }
 
     go : (v : Verdict) → verdict_in (replace k o) (lent c st) ≡ v → Frame k st (perform c st).1
-    go Accepted e =
+    go (Ok tt) e =
         let (a, r) = accepted_replace k o (length (contents t st.records)) (length (contents u st.values)) st.chart e in
         subst⁻¹ (Frame k st) (ap (λ x. x.1) (perform_accepted c st e)) (edited_frame k o t u st a r)
-    go (Refused q) e = subst⁻¹ (Frame k st) (ap (λ x. x.1) (perform_refused c st q e)) (frame_refl k st)
+    go (Err q) e = subst⁻¹ (Frame k st) (ap (λ x. x.1) (perform_refused c st q e)) (frame_refl k st)

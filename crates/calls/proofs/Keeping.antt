@@ -1,4 +1,5 @@
 -- What the plain chart keeps of the chart that was opened. Assumes nothing.
+use Rattle.std.specs.Prelude.{Ok, Err}
 use mathlib.Core.Path.{◌≡◌, refl, sym, ap, ◌∙◌}
 use mathlib.Core.List.{List, [], ◌∷◌, ◌++◌, map}
 use Prim.Native.Nat.{ℕ, zero, suc, ◌+◌, ◌-◌, ◌*◌, ◌≤◌, ◌<◌}
@@ -14,8 +15,7 @@ use Rattle.chart_fields.specs.declared.Layout.{Layout}
 use Rattle.chart_opening.specs.Header.{layout_of}
 use Rattle.chart_opening.specs.Conditions.{if_accepted}
 use Rattle.chart_opening.specs.Accepted.{header_ok_lem}
-use Rattle.chart_opening.specs.declared.Verdict.{Verdict}
-use Rattle.chart_opening.specs.declared.Verdict.TheVariants.{Accepted, Refused}
+use Rattle.chart_opening.specs.Verdict.{Verdict}
 use Rattle.chart_opening.proofs.Header.{holds}
 use Rattle.chart_replacing.specs.Replace.{object_bytes, put_object}
 use Rattle.chart_replacing.specs.Accepted.{Taken}
@@ -184,20 +184,20 @@ call_kept : (a : Operation) (r v : ℕ) (b : List ℕ) (q : Verdict) → refusal
     → Kept (if_accepted q (compute a b) (λ x. (refused x, b))).1 es b'
     → Kept b (with_edit a (if_accepted q (compute a b) (λ x. (refused x, b))).0 es) b'
 unfolding if_accepted compute with_edit is_carried_out
-call_kept (replace k o) r v b Accepted e es b' h = put_kept k o b (accepted_replace k o r v b e).0 es b' h
-call_kept (replace k o) r v b (Refused x) e es b' h = h
-call_kept (insert k o) r v b Accepted e es b' h = put_before_kept k o b (accepted_insert k o r v b e).0 es b' h
-call_kept (insert k o) r v b (Refused x) e es b' h = h
-call_kept (remove k) r v b Accepted e es b' h = take_out_kept k b (accepted_remove k r v b e).0 es b' h
-call_kept (remove k) r v b (Refused x) e es b' h = h
-call_kept (read_record k) r v b Accepted e es b' h = h
-call_kept (read_record k) r v b (Refused x) e es b' h = h
-call_kept (read_values k) r v b Accepted e es b' h = h
-call_kept (read_values k) r v b (Refused x) e es b' h = h
-call_kept (read_detail d k) r v b Accepted e es b' h = h
-call_kept (read_detail d k) r v b (Refused x) e es b' h = h
-call_kept (figure f l) r v b Accepted e es b' h = h
-call_kept (figure f l) r v b (Refused x) e es b' h = h
+call_kept (replace k o) r v b (Ok tt) e es b' h = put_kept k o b (accepted_replace k o r v b e).0 es b' h
+call_kept (replace k o) r v b (Err x) e es b' h = h
+call_kept (insert k o) r v b (Ok tt) e es b' h = put_before_kept k o b (accepted_insert k o r v b e).0 es b' h
+call_kept (insert k o) r v b (Err x) e es b' h = h
+call_kept (remove k) r v b (Ok tt) e es b' h = take_out_kept k b (accepted_remove k r v b e).0 es b' h
+call_kept (remove k) r v b (Err x) e es b' h = h
+call_kept (read_record k) r v b (Ok tt) e es b' h = h
+call_kept (read_record k) r v b (Err x) e es b' h = h
+call_kept (read_values k) r v b (Ok tt) e es b' h = h
+call_kept (read_values k) r v b (Err x) e es b' h = h
+call_kept (read_detail d k) r v b (Ok tt) e es b' h = h
+call_kept (read_detail d k) r v b (Err x) e es b' h = h
+call_kept (figure f l) r v b (Ok tt) e es b' h = h
+call_kept (figure f l) r v b (Err x) e es b' h = h
 
 none_kept : (b : List ℕ) → Kept b [] b
 unfolding applied_all

@@ -1,4 +1,5 @@
 -- The place of a refusal is at most the largest number of objects. Assumes nothing.
+use Rattle.std.specs.Prelude.{Err}
 use mathlib.Core.Path.{◌≡◌, refl, sym, ap, ◌∙◌}
 use mathlib.Core.List.{List}
 use mathlib.Core.Bool.{Bool, true, false}
@@ -10,7 +11,6 @@ use Rattle.chart_opening.specs.Conditions.{refusal_place, first_of, chart_condit
 use Rattle.chart_opening.specs.Accepted.{first_refused, header_ok_lem}
 use Rattle.chart_opening.specs.declared.Refusal.{Refusal}
 use Rattle.chart_opening.specs.declared.Refusal.TheVariants.{Header, Setting, Object, Entries, Order, Length, Table, Place, Room, NotFinite}
-use Rattle.chart_opening.specs.declared.Verdict.TheVariants.{Refused}
 use Rattle.chart_opening.proofs.Header.{holds}
 use Rattle.chart_replacing.specs.Replace.{put_object}
 use Rattle.chart_inserting.specs.Insert.{insert_object, remove_object}
@@ -39,18 +39,18 @@ placed_limit b Room h l = omega arith
 placed_limit b NotFinite h l = omega arith
 
 -- where condition 1 is met, that is the refusal
-header_first : (b : List ℕ) → header_ok b ≡ false → first_of (chart_conditions b) ≡ Refused Header
+header_first : (b : List ℕ) → header_ok b ≡ false → first_of (chart_conditions b) ≡ Err Header
 unfolding first_of chart_conditions
 header_first b h = simp h
 
-at_limit : (b : List ℕ) (q : Refusal) → (header_ok b ≡ false → Refused Header ≡ Refused q) → Placed b q → refusal_place q ≤ most_objects
+at_limit : (b : List ℕ) (q : Refusal) → (header_ok b ≡ false → Err Header ≡ Err q) → Placed b q → refusal_place q ≤ most_objects
 at_limit b q f p = go (header_ok b) refl
   where
     go : (t : Bool) → header_ok b ≡ t → refusal_place q ≤ most_objects
     go true h = placed_limit b q h p
     go false h = let e : refusal_place Header ≡ refusal_place q = ap refusal_place (same_refusal (f h)) in omega arith
 
-pub opening_limit : (r v : ℕ) (b : List ℕ) (q : Refusal) → opening r v b ≡ Refused q → refusal_place q ≤ most_objects
+pub opening_limit : (r v : ℕ) (b : List ℕ) (q : Refusal) → opening r v b ≡ Err q → refusal_place q ≤ most_objects
 unfolding open_conditions
 opening_limit r v b q e = at_limit b q (λ h. sym (first_refused (chart_conditions b) _ Header (header_first b h)) ∙ e) (opening_placed r v b q e)
 
@@ -78,7 +78,7 @@ remove_limit k r v b q (remove_of_chart e p) = opening_limit r v b q e
 remove_limit k r v b q (remove_of_place a h p) = let z : refusal_place q ≡ 0 = ap refusal_place p in omega arith
 remove_limit k r v b q (remove_of_result a h p) = placed_limit (remove_object k b) q (Out.header b k (header_ok_lem b (opening_met r v b a).0) h) p
 
-pub place_limit : (a : Operation) (r v : ℕ) (b : List ℕ) (q : Refusal) → refusal a r v b ≡ Refused q → refusal_place q ≤ most_objects
+pub place_limit : (a : Operation) (r v : ℕ) (b : List ℕ) (q : Refusal) → refusal a r v b ≡ Err q → refusal_place q ≤ most_objects
 unfolding refusal figure_conditions sum_conditions
 place_limit (replace k o) r v b q e = replace_limit k o r v b q (replace_placed k o r v b q e)
 place_limit (insert k o) r v b q e = insert_limit k o r v b q (insert_placed k o r v b q e)

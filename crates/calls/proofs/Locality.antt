@@ -1,4 +1,5 @@
 -- What a record, a value and a strain depend on; and that opening and replacing leave fresh tables. Assumes nothing.
+use Rattle.std.specs.Prelude.{Ok}
 use mathlib.Core.Path.{◌≡◌, refl, sym, ap, ◌∙◌}
 use mathlib.Core.Bool.{Bool, true, false, cond}
 use mathlib.Core.List.{List, ◌∷◌}
@@ -17,7 +18,6 @@ use Rattle.chart_opening.specs.Conditions.{first_of}
 use Rattle.chart_opening.specs.Accepted.{not_met, head_accepts}
 use Rattle.chart_opening.specs.declared.Refusal.TheVariants.{Place}
 use Rattle.chart_opening.specs.declared.Settings.{Settings}
-use Rattle.chart_opening.specs.declared.Verdict.TheVariants.{Accepted}
 use Rattle.chart_replacing.specs.Replace.{put_object}
 use Rattle.chart_replacing.specs.Accepted.{Taken}
 use Rattle.osu_object.specs.Osu.{Object, object_of, osu_object, list_from}
@@ -210,7 +210,7 @@ counted_local s b vs vs' h =
     counts_local d d k k vs vs' t t (count b) (λ i x. refl) (λ i x y. refl) (λ i x y. refl) h
 
 -- what comes with a call for the totals after m objects passes: there are as many
-some_objects : (m n : ℕ) → first_of (asked_conditions (totals_to m) n) ≡ Accepted → m ≤ n
+some_objects : (m n : ℕ) → first_of (asked_conditions (totals_to m) n) ≡ Ok tt → m ≤ n
 unfolding asked_conditions
 some_objects m n e = ltb-false n m (not_met (ltb n m) Place (head_accepts _ _ e))
 
@@ -222,7 +222,7 @@ totals_local s b vs vs' h =
     total_local d d vs vs' t t (count b) (λ i x. refl) (λ i x y. refl) h
 
 -- a figure whose call passes sees the values of places 1 to N - 1: each kind of figure adds one case here
-pub figure_local : (f : Figure) (s : Settings) (b : List ℕ) (vs vs' : ℕ → List Float) → first_of (asked_conditions f (count b)) ≡ Accepted → ((i : ℕ) → 1 ≤ i → i < count b → vs i ≡ vs' i) → figure_of f s b vs ≡ figure_of f s b vs'
+pub figure_local : (f : Figure) (s : Settings) (b : List ℕ) (vs vs' : ℕ → List Float) → first_of (asked_conditions f (count b)) ≡ Ok tt → ((i : ℕ) → 1 ≤ i → i < count b → vs i ≡ vs' i) → figure_of f s b vs ≡ figure_of f s b vs'
 unfolding figure_of
 figure_local totals s b vs vs' e h = ap totals_are (totals_local s b vs vs' h)
 figure_local counts s b vs vs' e h = ap counts_are (counted_local s b vs vs' h)
@@ -231,7 +231,7 @@ figure_local (playing entries) s b vs vs' e h =
     ap played_are (listed_local (λ m. reached_of m s b vs) (λ m. reached_of m s b vs') 0 (count b + 1) (λ m x y. reached_local m s b vs vs' (λ i p q. h i p (omega arith))))
 figure_local (ratings asked) s b vs vs' e h = ap (λ (t : Skills). ratings_are (ratings_of t (count b) asked)) (totals_local s b vs vs' h)
 
-pub figure_from_lem : (f : Figure) (s : Settings) (st : State) → first_of (asked_conditions f (count st.chart)) ≡ Accepted → Fresh s st → figure_from f s st.chart st.values ≡ fresh_figure f s st.chart
+pub figure_from_lem : (f : Figure) (s : Settings) (st : State) → first_of (asked_conditions f (count st.chart)) ≡ Ok tt → Fresh s st → figure_from f s st.chart st.values ≡ fresh_figure f s st.chart
 figure_from_lem f s st e h = figure_local f s st.chart (row value_width st.values) (fresh_values s st.chart) e h.values
 
 -- delta times of places whose objects are the same

@@ -1,4 +1,5 @@
 -- What an insertion or a removal moves, and what it leaves as it was. Assumes nothing.
+use Rattle.std.specs.Prelude.{Ok}
 use mathlib.Core.Path.{◌≡◌, sym, ap, ◌∙◌}
 use mathlib.Core.List.{List}
 use Prim.Native.Nat.{ℕ, suc, ◌+◌, ◌≤◌, ◌<◌, max}
@@ -9,7 +10,6 @@ use Rattle.num_tables.specs.Parts.{row}
 use Rattle.chart_opening.specs.Header.{layout_of, settings_of}
 use Rattle.chart_opening.specs.Conditions.{Opens}
 use Rattle.chart_opening.specs.declared.Settings.{Settings}
-use Rattle.chart_opening.specs.declared.Verdict.TheVariants.{Accepted}
 use Rattle.chart_inserting.specs.Insert.{insert_object, remove_object}
 use Rattle.chart_inserting.specs.OneMore.{OneMore}
 use Rattle.skills.specs.Strains.{strains}
@@ -79,7 +79,7 @@ module _ (k : ℕ) (o : List ℕ) (st : State) (m : OneMore k st.chart (insert_o
   unfolding put_in
   in_afresh = moved_afresh k st.chart (insert_object k o st.chart) m p
 
-pub insert_moves : (k : ℕ) (o : List ℕ) (st : State) → verdict_in (insert k o) st ≡ Accepted → Moved k st (execute (insert k o) st).leaves
+pub insert_moves : (k : ℕ) (o : List ℕ) (st : State) → verdict_in (insert k o) st ≡ Ok tt → Moved k st (execute (insert k o) st).leaves
 unfolding verdict_in execute
 insert_moves k o st e =
     let (a, r) = accepted_insert k o (length st.records) (length st.values) st.chart e in
@@ -115,7 +115,7 @@ module _ (k : ℕ) (st : State) (m : OneMore k (remove_object k st.chart) st.cha
   unfolding taken_out
   out_afresh = moved_afresh k (remove_object k st.chart) st.chart m p
 
-pub remove_moves : (k : ℕ) (st : State) → verdict_in (remove k) st ≡ Accepted → Moved k (execute (remove k) st).leaves st
+pub remove_moves : (k : ℕ) (st : State) → verdict_in (remove k) st ≡ Ok tt → Moved k (execute (remove k) st).leaves st
 unfolding verdict_in execute
 remove_moves k st e =
     let (a, r) = accepted_remove k (length st.records) (length st.values) st.chart e in

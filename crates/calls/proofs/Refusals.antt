@@ -1,4 +1,5 @@
 -- What follows where a call meets no condition. Assumes nothing.
+use Rattle.std.specs.Prelude.{Ok, Err}
 use mathlib.Core.Path.{◌≡◌, refl, sym, ap, ◌∙◌}
 use mathlib.Core.Logic.{◌↔◌}
 use mathlib.Core.List.{List, [], ◌∷◌, ◌++◌, append_assoc}
@@ -13,8 +14,7 @@ use Rattle.chart_opening.specs.Conditions.{Opens, refuse_if, first_of, chart_con
 use Rattle.chart_opening.specs.Accepted.{opens, enough, opens_with, is_met, not_met, head_accepts, tail_accepts, first_accepts, then_accepts, first_refused, first_passed}
 use Rattle.chart_opening.specs.declared.Refusal.{Refusal}
 use Rattle.chart_opening.specs.declared.Refusal.TheVariants.{Header, Table, Place}
-use Rattle.chart_opening.specs.declared.Verdict.{Verdict}
-use Rattle.chart_opening.specs.declared.Verdict.TheVariants.{Accepted, Refused}
+use Rattle.chart_opening.specs.Verdict.{Verdict}
 use Rattle.chart_opening.proofs.Header.{both}
 use Rattle.chart_replacing.specs.Accepted.{Taken}
 use Rattle.chart_replacing.proofs.Accepted.{taken, room}
@@ -32,21 +32,21 @@ pub record Roomy (r v n : ℕ) : Type 0 where
 roomy : (r v n : ℕ) → n ≤ entries_of r v → Roomy r v n
 roomy r v n h = record { records = omega arith; values = omega arith }
 
-pub opening_met : (r v : ℕ) (b : List ℕ) → opening r v b ≡ Accepted → Opens b × Roomy r v (count b)
+pub opening_met : (r v : ℕ) (b : List ℕ) → opening r v b ≡ Ok tt → Opens b × Roomy r v (count b)
 opening_met r v b e = (opens b (entries_of r v) e, roomy r v (count b) (enough b (entries_of r v) e))
 
-pub opening_none : (r v : ℕ) (b : List ℕ) → Opens b → record_width * count b ≤ r → value_width * count b ≤ v → opening r v b ≡ Accepted
+pub opening_none : (r v : ℕ) (b : List ℕ) → Opens b → record_width * count b ≤ r → value_width * count b ≤ v → opening r v b ≡ Ok tt
 opening_none r v b o x y = opens_with b (entries_of r v) o (omega arith)
 
-pub accepted_replace : (k : ℕ) (o : List ℕ) (r v : ℕ) (b : List ℕ) → refusal (replace k o) r v b ≡ Accepted → Taken b k o × Roomy r v (count b)
+pub accepted_replace : (k : ℕ) (o : List ℕ) (r v : ℕ) (b : List ℕ) → refusal (replace k o) r v b ≡ Ok tt → Taken b k o × Roomy r v (count b)
 unfolding refusal
 accepted_replace k o r v b e = (taken b k o (entries_of r v) e, roomy r v (count b) (room b k o (entries_of r v) e))
 
-pub accepted_insert : (k : ℕ) (o : List ℕ) (r v : ℕ) (b : List ℕ) → refusal (insert k o) r v b ≡ Accepted → Inserted b k o × Roomy r v (suc (count b))
+pub accepted_insert : (k : ℕ) (o : List ℕ) (r v : ℕ) (b : List ℕ) → refusal (insert k o) r v b ≡ Ok tt → Inserted b k o × Roomy r v (suc (count b))
 unfolding refusal
 accepted_insert k o r v b e = (inserted b k o (entries_of r v) e, roomy r v (suc (count b)) (omega (arith, insert_entries b k o (entries_of r v) e)))
 
-pub accepted_remove : (k r v : ℕ) (b : List ℕ) → refusal (remove k) r v b ≡ Accepted → Removed b k × Roomy r v (count b)
+pub accepted_remove : (k r v : ℕ) (b : List ℕ) → refusal (remove k) r v b ≡ Ok tt → Removed b k × Roomy r v (count b)
 unfolding refusal
 accepted_remove k r v b e = (removed b k (entries_of r v) e, roomy r v (count b) (remove_entries b k (entries_of r v) e))
 
@@ -57,7 +57,7 @@ pub record Read (b : List ℕ) (entries k : ℕ) : Type 0 where
   pub one : 1 ≤ k
   pub below : k < count b
 
-pub accepted_read : (b : List ℕ) (entries k : ℕ) → read_verdict b entries k ≡ Accepted → Read b entries k
+pub accepted_read : (b : List ℕ) (entries k : ℕ) → read_verdict b entries k ≡ Ok tt → Read b entries k
 unfolding read_conditions row_conditions
 accepted_read b entries k e =
     let t = both (ltb 0 k) (ltb k (layout_of b).n) (is_met (ltb 0 k && ltb k (layout_of b).n) Place (head_accepts _ _ (tail_accepts _ _ (tail_accepts _ _ e)))) in
@@ -68,15 +68,15 @@ accepted_read b entries k e =
       below = ltb-true k (layout_of b).n t.1;
     }
 
-pub accepted_record : (k r v : ℕ) (b : List ℕ) → refusal (read_record k) r v b ≡ Accepted → Read b (r / record_width) k
+pub accepted_record : (k r v : ℕ) (b : List ℕ) → refusal (read_record k) r v b ≡ Ok tt → Read b (r / record_width) k
 unfolding refusal
 accepted_record k r v b e = accepted_read b (r / record_width) k e
 
-pub accepted_detail : (d : Detail) (k r v : ℕ) (b : List ℕ) → refusal (read_detail d k) r v b ≡ Accepted → Read b (r / record_width) k
+pub accepted_detail : (d : Detail) (k r v : ℕ) (b : List ℕ) → refusal (read_detail d k) r v b ≡ Ok tt → Read b (r / record_width) k
 unfolding refusal
 accepted_detail d k r v b e = accepted_read b (r / record_width) k e
 
-pub accepted_values : (k r v : ℕ) (b : List ℕ) → refusal (read_values k) r v b ≡ Accepted → Read b (v / value_width) k
+pub accepted_values : (k r v : ℕ) (b : List ℕ) → refusal (read_values k) r v b ≡ Ok tt → Read b (v / value_width) k
 unfolding refusal
 accepted_values k r v b e = accepted_read b (v / value_width) k e
 
@@ -86,10 +86,10 @@ unfolding sum_conditions open_conditions
 sum_list b entries short = sym (append_assoc (chart_conditions b) (too_few entries (count b) ∷ []) (refuse_if short Table ∷ []))
 
 module _ (b : List ℕ) (entries : ℕ) (short : Bool) where
-  pub sum_refused : (q : Refusal) → open_verdict b entries ≡ Refused q → sum_verdict b entries short ≡ Refused q
+  pub sum_refused : (q : Refusal) → open_verdict b entries ≡ Err q → sum_verdict b entries short ≡ Err q
   sum_refused q e = ap first_of (sum_list b entries short) ∙ first_refused (open_conditions b entries) _ q e
 
-  pub sum_passed : open_verdict b entries ≡ Accepted → sum_verdict b entries short ≡ refuse_if short Table
+  pub sum_passed : open_verdict b entries ≡ Ok tt → sum_verdict b entries short ≡ refuse_if short Table
   unfolding first_of
   sum_passed e = ap first_of (sum_list b entries short) ∙ (first_passed (open_conditions b entries) _ e ∙ last short)
     where
@@ -98,11 +98,11 @@ module _ (b : List ℕ) (entries : ℕ) (short : Bool) where
       last false = refl
 
   -- a figure answers what the sums do, and then tries what comes with it
-  pub figure_refused : (f : Figure) (q : Refusal) → sum_verdict b entries short ≡ Refused q → figure_verdict f b entries short ≡ Refused q
+  pub figure_refused : (f : Figure) (q : Refusal) → sum_verdict b entries short ≡ Err q → figure_verdict f b entries short ≡ Err q
   unfolding figure_conditions
   figure_refused f q e = first_refused (sum_conditions b entries short) _ q e
 
-  pub figure_passed : (f : Figure) → sum_verdict b entries short ≡ Accepted → figure_verdict f b entries short ≡ first_of (asked_conditions f (count b))
+  pub figure_passed : (f : Figure) → sum_verdict b entries short ≡ Ok tt → figure_verdict f b entries short ≡ first_of (asked_conditions f (count b))
   unfolding figure_conditions
   figure_passed f e = first_passed (sum_conditions b entries short) (asked_conditions f (count b)) e
 
@@ -123,14 +123,14 @@ module _ (l : Lengths) (v : ℕ) (b : List ℕ) where
   behind : List Verdict
   behind = too_few (v / value_width) (count b) ∷ refuse_if (scratch_short l) Table ∷ []
 
-  pub sum_accepted : sum_verdict b (v / value_width) (scratch_short l) ≡ Accepted → Opens b × (value_width * count b ≤ v) × (scratch_short l ≡ false)
+  pub sum_accepted : sum_verdict b (v / value_width) (scratch_short l) ≡ Ok tt → Opens b × (value_width * count b ≤ v) × (scratch_short l ≡ false)
   unfolding sum_conditions behind
   sum_accepted e =
       let t = then_accepts (chart_conditions b) behind e in
       let h : count b ≤ v / value_width = ltb-false (v / value_width) (count b) (not_met (ltb (v / value_width) (count b)) Table (head_accepts _ _ t)) in
       (first_accepts (chart_conditions b) behind e, omega arith, not_met (scratch_short l) Table (head_accepts _ _ (tail_accepts _ _ t)))
 
-  sum_back : Opens b → value_width * count b ≤ v → scratch_short l ≡ false → sum_verdict b (v / value_width) (scratch_short l) ≡ Accepted
+  sum_back : Opens b → value_width * count b ≤ v → scratch_short l ≡ false → sum_verdict b (v / value_width) (scratch_short l) ≡ Ok tt
   unfolding sum_conditions first_of behind
   sum_back o h w =
       let t : count b ≤ v / value_width = omega arith in
@@ -138,17 +138,17 @@ module _ (l : Lengths) (v : ℕ) (b : List ℕ) where
 
 -- a figure, where what comes with it passes too
 module _ (f : Figure) (l : Lengths) (r v : ℕ) (b : List ℕ) where
-  there : refusal (figure f l) r v b ≡ Accepted → Opens b × (value_width * count b ≤ v) × (scratch_short l ≡ false) × (first_of (asked_conditions f (count b)) ≡ Accepted)
+  there : refusal (figure f l) r v b ≡ Ok tt → Opens b × (value_width * count b ≤ v) × (scratch_short l ≡ false) × (first_of (asked_conditions f (count b)) ≡ Ok tt)
   unfolding refusal figure_conditions
   there e =
       let s = first_accepts (sum_conditions b (v / value_width) (scratch_short l)) (asked_conditions f (count b)) e in
       let (o, h, w) = sum_accepted l v b s in
       (o, h, w, then_accepts (sum_conditions b (v / value_width) (scratch_short l)) (asked_conditions f (count b)) e)
 
-  back : Opens b × (value_width * count b ≤ v) × (scratch_short l ≡ false) × (first_of (asked_conditions f (count b)) ≡ Accepted) → refusal (figure f l) r v b ≡ Accepted
+  back : Opens b × (value_width * count b ≤ v) × (scratch_short l ≡ false) × (first_of (asked_conditions f (count b)) ≡ Ok tt) → refusal (figure f l) r v b ≡ Ok tt
   unfolding refusal
   back (o, h, w, a) = figure_passed b (v / value_width) (scratch_short l) f (sum_back l v b o h w) ∙ a
 
-  pub figure_accepted : (refusal (figure f l) r v b ≡ Accepted)
-      ↔ (Opens b × (value_width * count b ≤ v) × (scratch_short l ≡ false) × (first_of (asked_conditions f (count b)) ≡ Accepted))
+  pub figure_accepted : (refusal (figure f l) r v b ≡ Ok tt)
+      ↔ (Opens b × (value_width * count b ≤ v) × (scratch_short l ≡ false) × (first_of (asked_conditions f (count b)) ≡ Ok tt))
   figure_accepted = (there, back)

@@ -1,10 +1,10 @@
 -- What holds at any time after an opening is all that the station shows (`Shown`). Assumes nothing.
+use Rattle.std.specs.Prelude.{Ok}
 use mathlib.Core.Path.{◌≡◌, sym, ◌∙◌}
 use Prim.Native.Nat.{ℕ, ◌≤◌, ◌<◌}
 use lib.ListN.{length}
 use Rattle.num_tables.specs.Parts.{row}
 use Rattle.chart_opening.specs.Header.{settings_of}
-use Rattle.chart_opening.specs.declared.Verdict.TheVariants.{Accepted}
 use Rattle.calls.specs.Tables.{record_width, value_width}
 use Rattle.calls.specs.Afresh.{count, fresh_row, fresh_values}
 use Rattle.calls.specs.Calls.{State, opened, open_answer}
@@ -14,18 +14,18 @@ use Rattle.calls.proofs.Locality.{strain_from, detail_from_lem, figure_from_lem,
 use Rattle.calls.proofs.Steps.{Inv}
 
 -- opening a chart, into any tables, gives what is worked out afresh
-reopened : (st : State) → open_answer st ≡ Accepted → Fresh (settings_of st.chart) (opened st)
+reopened : (st : State) → open_answer st ≡ Ok tt → Fresh (settings_of st.chart) (opened st)
 unfolding opened open_answer
 reopened st e =
     let (o, r) = opening_met (length st.records) (length st.values) st.chart e in
     open_fresh (settings_of st.chart) st.chart st.records st.values r.records r.values
 
-pub opened_values : (st : State) → open_answer st ≡ Accepted → (j : ℕ) → 1 ≤ j → j < count st.chart
+pub opened_values : (st : State) → open_answer st ≡ Ok tt → (j : ℕ) → 1 ≤ j → j < count st.chart
     → row value_width (opened st).values j ≡ fresh_values (settings_of st.chart) st.chart j
 unfolding opened
 opened_values st e j p q = (reopened st e).values j p q
 
-opened_records : (st : State) → open_answer st ≡ Accepted → (j : ℕ) → 1 ≤ j → j < count st.chart
+opened_records : (st : State) → open_answer st ≡ Ok tt → (j : ℕ) → 1 ≤ j → j < count st.chart
     → row record_width (opened st).records j ≡ fresh_row (settings_of st.chart) st.chart j
 unfolding opened
 opened_records st e j p q = (reopened st e).records j p q

@@ -1,4 +1,5 @@
 -- One call on an opened chart: it keeps the tables fresh, answers as the plain chart does, and writes entries 1 to N - 1 only. Assumes nothing.
+use Rattle.std.specs.Prelude.{Ok, Err}
 use mathlib.Core.Path.{◌≡◌, refl, sym, ap, ◌∙◌, subst, subst₂}
 use mathlib.Core.List.{List, ◌++◌}
 use Prim.Native.Nat.{ℕ, suc, ◌+◌, ◌-◌, ◌*◌, ◌≤◌, ◌<◌, min, max}
@@ -14,8 +15,7 @@ use Rattle.chart_opening.specs.Header.{settings_of}
 use Rattle.chart_opening.specs.Conditions.{if_accepted, Opens}
 use Rattle.chart_opening.specs.declared.Settings.{Settings}
 use Rattle.chart_opening.specs.declared.Refusal.{Refusal}
-use Rattle.chart_opening.specs.declared.Verdict.{Verdict}
-use Rattle.chart_opening.specs.declared.Verdict.TheVariants.{Accepted, Refused}
+use Rattle.chart_opening.specs.Verdict.{Verdict}
 use Rattle.chart_replacing.specs.Replace.{put_object}
 use Rattle.chart_replacing.specs.Accepted.{Taken}
 use Rattle.chart_inserting.specs.Insert.{insert_object, remove_object}
@@ -302,12 +302,12 @@ module _ (c : Call) (st : State) where
       let x : Outcome = if_accepted v (execute c.operation (lent c st)) (refuse (lent c st)) in
       (x.answer, state_after c x.leaves st)
 
-  pub perform_accepted : verdict_in c.operation (lent c st) ≡ Accepted
+  pub perform_accepted : verdict_in c.operation (lent c st) ≡ Ok tt
       → perform c st ≡ ((execute c.operation (lent c st)).answer, state_after c (execute c.operation (lent c st)).leaves st)
   unfolding perform outcome result if_accepted
   perform_accepted e = ap result e
 
-  pub perform_refused : (q : Refusal) → verdict_in c.operation (lent c st) ≡ Refused q → perform c st ≡ (refused q, st)
+  pub perform_refused : (q : Refusal) → verdict_in c.operation (lent c st) ≡ Err q → perform c st ≡ (refused q, st)
   unfolding perform outcome result if_accepted refuse
   perform_refused q e = ap result e ∙ (λ i. (refused q, same_state c st i))
 
@@ -404,7 +404,7 @@ module _ (k : ℕ) (t u : Borrowed) (own-t : IsOwn t) (own-u : IsOwn u) (st : St
 
 -- a call that is carried out on the opening's tables
 pub as_own : (a : Operation) (t u : Borrowed) (st : State) → OwnTables a t u → let c : Call = record { operation = a; records = t; values = u } in
-    verdict_in a (lent c st) ≡ Accepted → ((execute a (lent c st)).answer ≡ (execute a st).answer) × (state_after c (execute a (lent c st)).leaves st ≡ (execute a st).leaves)
+    verdict_in a (lent c st) ≡ Ok tt → ((execute a (lent c st)).answer ≡ (execute a st).answer) × (state_after c (execute a (lent c st)).leaves st ≡ (execute a st).leaves)
 unfolding OwnTables verdict_in execute lent
 as_own (replace k o) t u st own e =
     let (a, r) = accepted_replace k o (length (contents t st.records)) (length (contents u st.values)) st.chart e in
@@ -477,11 +477,11 @@ unfolding verdict_in lent
 verdict_lent c st r v e f = λ i. refusal c.operation (length_lent c.records st.records r e i) (length_lent c.values st.values v f i) st.chart
 
 module _ (c : Call) (st : State) where
-  plain_accepted : if_accepted Accepted (compute c.operation st.chart) (λ q. (refused q, st.chart)) ≡ compute c.operation st.chart
+  plain_accepted : if_accepted (Ok tt) (compute c.operation st.chart) (λ q. (refused q, st.chart)) ≡ compute c.operation st.chart
   unfolding if_accepted
   plain_accepted = refl
 
-  plain_refused : (q : Refusal) → if_accepted (Refused q) (compute c.operation st.chart) (λ p. (refused p, st.chart)) ≡ (refused q, st.chart)
+  plain_refused : (q : Refusal) → if_accepted (Err q) (compute c.operation st.chart) (λ p. (refused p, st.chart)) ≡ (refused q, st.chart)
   unfolding if_accepted
   plain_refused q = refl
 
@@ -541,7 +541,7 @@ module _ (st₀ : State) where
       }
 
   -- a call that is carried out on the opening's tables
-  carried : (a : Operation) (r v : ℕ) (st : State) → Inv st → refusal a r v st.chart ≡ Accepted → Shorter a r v st
+  carried : (a : Operation) (r v : ℕ) (st : State) → Inv st → refusal a r v st.chart ≡ Ok tt → Shorter a r v st
       → Good st ((execute a st).answer, (execute a st).leaves) (compute a st.chart)
   unfolding execute compute
   carried (replace k o) r v st i e h =
@@ -587,14 +587,14 @@ module _ (st₀ : State) where
       plainly v = if_accepted v (compute c.operation st.chart) (λ q. (refused q, st.chart))
 
       go : (v : Verdict) → verdict_in c.operation (lent c st) ≡ v → Good st (perform c st) (plainly asked)
-      go Accepted e =
+      go (Ok tt) e =
           let own = as_own c.operation c.records c.values st (ok e) e in
           subst₂ (Good st) (sym (perform_accepted c st e ∙ (λ j. (own.0 j, own.1 j)))) (sym (ap plainly (sym alike ∙ e) ∙ plain_accepted c st))
           (carried c.operation (length_of c.records (length st₀.records)) (length_of c.values (length st₀.values)) st i (sym alike ∙ e)
           (subst₂ (λ (r v : ℕ). Shorter c.operation r v st)
           (length_lent c.records st.records (length st₀.records) i.records_length) (length_lent c.values st.values (length st₀.values) i.values_length)
           (shorter c.operation c.records c.values st (ok e))))
-      go (Refused q) e =
+      go (Err q) e =
           subst₂ (Good st) (sym (perform_refused c st q e)) (sym (ap plainly (sym alike ∙ e) ∙ plain_refused c st q))
           (record { answer = refl; chart = refl; inv = i; outside = outside_refl (count st.chart) st })
 

@@ -1,4 +1,5 @@
 -- Demand 3: every claim of `Statement`. Assumes nothing.
+use Rattle.std.specs.Prelude.{Ok}
 use mathlib.Core.Path.{◌≡◌, refl, sym, ap, ◌∙◌, subst, subst⁻¹, subst₂}
 use mathlib.Core.Logic.{◌↔◌}
 use mathlib.Core.List.{List, [], ◌∷◌, ◌++◌, map}
@@ -9,7 +10,6 @@ use lib.ListN.{length}
 use Rattle.num_tables.specs.Parts.{row}
 use Rattle.chart_fields.specs.declared.Fields.{Fields}
 use Rattle.chart_opening.specs.Header.{layout_of, settings_of}
-use Rattle.chart_opening.specs.declared.Verdict.TheVariants.{Accepted}
 use Rattle.osu_object.specs.Osu.{osu_object, kind_of}
 use Rattle.osu_object.proofs.Alike as Same
 use Rattle.eval_aim.proofs.Value.{aim_combine, rule_max}
@@ -65,7 +65,7 @@ opened_chart : (st : State) → (opened st).chart ≡ st.chart
 unfolding opened
 opened_chart st = refl
 
-module _ (st₀ : State) (e : open_answer st₀ ≡ Accepted) where
+module _ (st₀ : State) (e : open_answer st₀ ≡ Ok tt) where
   start : Inv st₀ (opened st₀)
   unfolding open_answer
   start = let (o, r) = opening_met (length st₀.records) (length st₀.values) st₀.chart e in opened_inv st₀ o r
@@ -95,7 +95,7 @@ module _ (st₀ : State) (e : open_answer st₀ ≡ Accepted) where
 
 -- ---- A replacement in such a list
 
-frame_in_list : (st₀ : State) → open_answer st₀ ≡ Accepted
+frame_in_list : (st₀ : State) → open_answer st₀ ≡ Ok tt
     → (cs ds : List Call) (k : ℕ) (o : List ℕ) (t u : Borrowed)
     → let c : Call = record { operation = replace k o; records = t; values = u } in Throughout perform Admissible (cs ++ (c ∷ ds)) (opened st₀)
     → let x = after perform cs (opened st₀) in let y = after perform (cs ++ (c ∷ [])) (opened st₀) in
@@ -140,7 +140,7 @@ likeness j b b' a =
     ∙ ap (λ s. fresh_values s b' j) a.same_settings
 
 -- the same of what the tables hold after both were opened
-likeness_opened : (j : ℕ) (st st' : State) → open_answer st ≡ Accepted → open_answer st' ≡ Accepted → Alike j st.chart st'.chart
+likeness_opened : (j : ℕ) (st st' : State) → open_answer st ≡ Ok tt → open_answer st' ≡ Ok tt → Alike j st.chart st'.chart
     → row value_width (opened st).values j ≡ row value_width (opened st').values j
 likeness_opened j st st' e e' a =
     opened_values st e j a.here.0 a.here.1 ∙ (likeness j st.chart st'.chart a ∙ sym (opened_values st' e' j a.here.0 a.here.2))

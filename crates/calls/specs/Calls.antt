@@ -8,7 +8,7 @@ use Rattle.chart_opening.specs.Header.{settings_of}
 use Rattle.chart_opening.specs.Conditions.{if_accepted}
 use Rattle.chart_opening.specs.declared.Settings.{Settings}
 use Rattle.chart_opening.specs.declared.Refusal.{Refusal}
-use Rattle.chart_opening.specs.declared.Verdict.{Verdict}
+use Rattle.chart_opening.specs.Verdict.{Verdict}
 use Rattle.skills.specs.declared.Skills.{Skills}
 use Rattle.skills_playing.specs.Playing.{total_row}
 use Rattle.chart_replacing.specs.Replace.{put_object}

@@ -3,7 +3,7 @@ use Rattle.std.specs.Prelude.{List, [], ◌∷◌, ◌++◌, Bool, not, ◌&&◌
 use Rattle.chart_opening.specs.Header.{layout_of, header_ok}
 use Rattle.chart_opening.specs.Conditions.{refuse_if, first_of, chart_conditions, too_few, open_verdict}
 use Rattle.chart_opening.specs.declared.Refusal.TheVariants.{Header, Table, Place, NotFinite}
-use Rattle.chart_opening.specs.declared.Verdict.{Verdict}
+use Rattle.chart_opening.specs.Verdict.{Verdict}
 use Rattle.chart_replacing.specs.Replace.{replace_verdict}
 use Rattle.chart_inserting.specs.Insert.{insert_verdict, remove_verdict}
 use Rattle.calls.specs.Tables.{least_scratch, record_entries, value_entries, entries_of}

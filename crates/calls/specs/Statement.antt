@@ -1,6 +1,6 @@
 -- What is claimed of the calls: demand 3 over every list of calls (`Sound`), what a call writes (`Outside`), what a replacement leaves as it was (`Frame`), what an
 -- insertion or a removal moves (`Moved`), charts that are alike (`Alike`), the place that a refusal returns (`Placed`), and how the promises of the public functions come in. `Claims` has them all. Definitions only.
-use Rattle.std.specs.Prelude.{◌≡◌, ◌↔◌, List, [], ◌∷◌, ◌++◌, map, Bool, true, false, cond, ℕ, zero, suc, ◌+◌, ◌-◌, ◌*◌, ◌/◌, ◌<◌, ◌≤◌, max, Float, length, take, drop, set, get_or}
+use Rattle.std.specs.Prelude.{◌≡◌, ◌↔◌, List, [], ◌∷◌, ◌++◌, map, Bool, true, false, cond, ℕ, zero, suc, ◌+◌, ◌-◌, ◌*◌, ◌/◌, ◌<◌, ◌≤◌, max, Float, length, take, drop, set, get_or, Ok, Err}
 use Rattle.std.specs.Float.{nan}
 use Rattle.num_floats.specs.Fields.{u32_at}
 use Rattle.chart_fields.specs.Limits.{most_objects}
@@ -14,7 +14,6 @@ use Rattle.chart_opening.specs.Conditions.{Opens, first_of, chart_conditions, to
 use Rattle.chart_opening.specs.declared.Settings.{Settings}
 use Rattle.chart_opening.specs.declared.Refusal.{Refusal}
 use Rattle.chart_opening.specs.declared.Refusal.TheVariants.{Header, Setting, Object, Entries, Order, Length, Table, Place, Room, NotFinite}
-use Rattle.chart_opening.specs.declared.Verdict.TheVariants.{Accepted, Refused}
 use Rattle.chart_replacing.specs.Replace.{object_bytes, put_object}
 use Rattle.chart_inserting.specs.Insert.{insert_object, remove_object, no_room}
 use Rattle.chart_inserting.specs.OneMore.{count_bytes, setting_bytes, entry_bytes}
@@ -129,12 +128,12 @@ value_found (rhythm_is x n) = x
 
 -- "each lent [..], if carried out, the tables which that opening filled, as they then stand"
 unfoldable pub Admissible : State → Call → Type 0
-Admissible st c = verdict_in c.operation (lent c st) ≡ Accepted → OwnTables c.operation c.records c.values
+Admissible st c = verdict_in c.operation (lent c st) ≡ Ok tt → OwnTables c.operation c.records c.values
 
 -- the chart opens, and all that the tables tell equals what is worked out from it afresh
 pub record Shown (st : State) : Type 0 where
   -- the chart would still open, into any tables that are long enough
-  pub opens : (r v : ℕ) → record_width * count st.chart ≤ r → value_width * count st.chart ≤ v → opening r v st.chart ≡ Accepted
+  pub opens : (r v : ℕ) → record_width * count st.chart ≤ r → value_width * count st.chart ≤ v → opening r v st.chart ≡ Ok tt
   -- records, values, strains, details and figures equal those worked out afresh; a record is what reading answers
   pub fresh : Fresh (settings_in st) st
   pub reads : (j : ℕ) → 1 ≤ j → j < count st.chart → record_at st.records j ≡ fresh_record (settings_in st) st.chart j
@@ -143,7 +142,7 @@ pub record Shown (st : State) : Type 0 where
   pub details : (d : Detail) (j : ℕ) → 1 ≤ j → j < count st.chart
       → detail_from d (settings_in st) st.chart st.records j ≡ fresh_detail d (settings_in st) st.chart j
   -- a figure, where what comes with the call passes
-  pub figures : (f : Figure) → first_of (asked_conditions f (count st.chart)) ≡ Accepted
+  pub figures : (f : Figure) → first_of (asked_conditions f (count st.chart)) ≡ Ok tt
       → figure_from f (settings_in st) st.chart st.values ≡ fresh_figure f (settings_in st) st.chart
   -- aim's parts at a place, put together by the Rust's last lines, are the value that the table holds there
   pub aim : (j : ℕ) → 1 ≤ j → j < count st.chart → (sliders : Bool)
@@ -153,7 +152,7 @@ pub record Shown (st : State) : Type 0 where
       → value_found (detail_from rhythm (settings_in st) st.chart st.records j) ≡ get_or (row value_width st.values j) 3 nan
   -- opening a copy of the chart, into any other tables, gives what the tables hold
   pub again : (rs vs : List Float) → let copy : State = state st.chart rs vs in
-      open_answer copy ≡ Accepted → (j : ℕ) → 1 ≤ j → j < count st.chart
+      open_answer copy ≡ Ok tt → (j : ℕ) → 1 ≤ j → j < count st.chart
       → (row record_width st.records j ≡ row record_width (opened copy).records j)
       × (row value_width st.values j ≡ row value_width (opened copy).values j)
 
@@ -272,14 +271,14 @@ Placed b NotFinite = Unit {0}
 
 -- of a replacement: of the chart as it is lent; else no such place; else an object of another length, at its place; else of the chart as it would become
 pub data ReplacePlaced (k : ℕ) (o : List ℕ) (r v : ℕ) (b : List ℕ) (q : Refusal) : Type 0 where
-  of_chart : opening r v b ≡ Refused q → Placed b q → ReplacePlaced k o r v b q
-  of_place : opening r v b ≡ Accepted → count b ≤ k → q ≡ Place → ReplacePlaced k o r v b q
-  of_length : opening r v b ≡ Accepted → k < count b → (length o ≡ (layout_of b).object_size → ⊥) → q ≡ Object k → ReplacePlaced k o r v b q
-  of_result : opening r v b ≡ Accepted → k < count b → length o ≡ (layout_of b).object_size → Placed (put_object k o b) q → ReplacePlaced k o r v b q
+  of_chart : opening r v b ≡ Err q → Placed b q → ReplacePlaced k o r v b q
+  of_place : opening r v b ≡ Ok tt → count b ≤ k → q ≡ Place → ReplacePlaced k o r v b q
+  of_length : opening r v b ≡ Ok tt → k < count b → (length o ≡ (layout_of b).object_size → ⊥) → q ≡ Object k → ReplacePlaced k o r v b q
+  of_result : opening r v b ≡ Ok tt → k < count b → length o ≡ (layout_of b).object_size → Placed (put_object k o b) q → ReplacePlaced k o r v b q
 
 -- of an insertion: N + 1 entries are asked of the tables, and there is room or not
 pub data InsertPlaced (k : ℕ) (o : List ℕ) (r v : ℕ) (b : List ℕ) (q : Refusal) : Type 0 where
-  insert_of_chart : first_of (chart_conditions b ++ (too_few (entries_of r v) (count b + 1) ∷ [])) ≡ Refused q → Placed b q → InsertPlaced k o r v b q
+  insert_of_chart : first_of (chart_conditions b ++ (too_few (entries_of r v) (count b + 1) ∷ [])) ≡ Err q → Placed b q → InsertPlaced k o r v b q
   insert_of_place : Opens b → count b < k → q ≡ Place → InsertPlaced k o r v b q
   insert_of_room : Opens b → k ≤ count b → no_room b ≡ true → q ≡ Room → InsertPlaced k o r v b q
   insert_of_length : Opens b → k ≤ count b → no_room b ≡ false → (length o ≡ (layout_of b).object_size → ⊥) → q ≡ Object k → InsertPlaced k o r v b q
@@ -287,9 +286,9 @@ pub data InsertPlaced (k : ℕ) (o : List ℕ) (r v : ℕ) (b : List ℕ) (q : R
 
 -- of a removal
 pub data RemovePlaced (k r v : ℕ) (b : List ℕ) (q : Refusal) : Type 0 where
-  remove_of_chart : opening r v b ≡ Refused q → Placed b q → RemovePlaced k r v b q
-  remove_of_place : opening r v b ≡ Accepted → count b ≤ k → q ≡ Place → RemovePlaced k r v b q
-  remove_of_result : opening r v b ≡ Accepted → k < count b → Placed (remove_object k b) q → RemovePlaced k r v b q
+  remove_of_chart : opening r v b ≡ Err q → Placed b q → RemovePlaced k r v b q
+  remove_of_place : opening r v b ≡ Ok tt → count b ≤ k → q ≡ Place → RemovePlaced k r v b q
+  remove_of_result : opening r v b ≡ Ok tt → k < count b → Placed (remove_object k b) q → RemovePlaced k r v b q
 
 -- ---- How many objects there are after a call that is carried out
 unfoldable pub count_after : Operation → ℕ → ℕ
@@ -311,7 +310,7 @@ own_call a = record { operation = a; records = own; values = own }
 
 pub record Claims : Type 0 where
   -- demand 3's list is one claim over the whole of it
-  pub list : (st₀ : State) → open_answer st₀ ≡ Accepted
+  pub list : (st₀ : State) → open_answer st₀ ≡ Ok tt
       → (cs : List Call) → Throughout perform Admissible cs (opened st₀) → Sound st₀ cs (after perform cs (opened st₀)) (answers perform cs (opened st₀))
   -- a step of the list is the promise of the function that is called: with the opening's tables it answers and leaves what the promise says; a function that
   -- borrows one table only answers the same whatever the other one holds
@@ -338,56 +337,56 @@ pub record Claims : Type 0 where
   pub values_reads : (k : ℕ) (st : State) → (outcome (read_values k) st).leaves ≡ st
   pub detail_reads : (d : Detail) (k : ℕ) (st : State) → (outcome (read_detail d k) st).leaves ≡ st
   pub figure_reads : (f : Figure) (l : Lengths) (st : State) → (outcome (figure f l) st).leaves ≡ st
-  pub counts : (a : Operation) (st : State) → verdict_in a st ≡ Accepted → count (execute a st).leaves.chart ≡ count_after a (count st.chart)
+  pub counts : (a : Operation) (st : State) → verdict_in a st ≡ Ok tt → count (execute a st).leaves.chart ≡ count_after a (count st.chart)
   -- a replacement at place k, accepted or refused, in any state and whatever tables it borrows
   pub frame : (k : ℕ) (o : List ℕ) (t u : Borrowed) (st : State) → Frame k st (perform (record { operation = replace k o; records = t; values = u }) st).1
   -- the same in such a list: the tables are fresh before and after it
-  pub frame_in_list : (st₀ : State) → open_answer st₀ ≡ Accepted
+  pub frame_in_list : (st₀ : State) → open_answer st₀ ≡ Ok tt
       → (cs ds : List Call) (k : ℕ) (o : List ℕ) (t u : Borrowed)
       → let c : Call = record { operation = replace k o; records = t; values = u } in
       Throughout perform Admissible (cs ++ (c ∷ ds)) (opened st₀)
       → let x = after perform cs (opened st₀) in let y = after perform (cs ++ (c ∷ [])) (opened st₀) in
       Frame k x y × Fresh (settings_in x) x × Fresh (settings_in y) y
   -- an insertion or a removal at place k that is carried out, in any state
-  pub insert_moves : (k : ℕ) (o : List ℕ) (st : State) → verdict_in (insert k o) st ≡ Accepted → Moved k st (execute (insert k o) st).leaves
-  pub remove_moves : (k : ℕ) (st : State) → verdict_in (remove k) st ≡ Accepted → Moved k (execute (remove k) st).leaves st
+  pub insert_moves : (k : ℕ) (o : List ℕ) (st : State) → verdict_in (insert k o) st ≡ Ok tt → Moved k st (execute (insert k o) st).leaves
+  pub remove_moves : (k : ℕ) (st : State) → verdict_in (remove k) st ≡ Ok tt → Moved k (execute (remove k) st).leaves st
   -- charts that are alike about j have the same values at j, worked out afresh and in the tables that opening them left
   pub alike : (j : ℕ) (b b' : List ℕ) → Alike j b b' → fresh_values (settings_of b) b j ≡ fresh_values (settings_of b') b' j
-  pub alike_opened : (j : ℕ) (st st' : State) → open_answer st ≡ Accepted → open_answer st' ≡ Accepted → Alike j st.chart st'.chart
+  pub alike_opened : (j : ℕ) (st st' : State) → open_answer st ≡ Ok tt → open_answer st' ≡ Ok tt → Alike j st.chart st'.chart
       → row value_width (opened st).values j ≡ row value_width (opened st').values j
   -- the place that a refusal returns, and that it is small; number and place tell which refusal it is
-  pub opening_placed : (r v : ℕ) (b : List ℕ) (q : Refusal) → opening r v b ≡ Refused q → Placed b q
-  pub replace_placed : (k : ℕ) (o : List ℕ) (r v : ℕ) (b : List ℕ) (q : Refusal) → refusal (replace k o) r v b ≡ Refused q → ReplacePlaced k o r v b q
-  pub insert_placed : (k : ℕ) (o : List ℕ) (r v : ℕ) (b : List ℕ) (q : Refusal) → refusal (insert k o) r v b ≡ Refused q → InsertPlaced k o r v b q
-  pub remove_placed : (k r v : ℕ) (b : List ℕ) (q : Refusal) → refusal (remove k) r v b ≡ Refused q → RemovePlaced k r v b q
-  pub record-placed : (k r v : ℕ) (b : List ℕ) (q : Refusal) → refusal (read_record k) r v b ≡ Refused q → refusal_place q ≡ 0
-  pub values_placed : (k r v : ℕ) (b : List ℕ) (q : Refusal) → refusal (read_values k) r v b ≡ Refused q → refusal_place q ≡ 0
-  pub detail_placed : (d : Detail) (k r v : ℕ) (b : List ℕ) (q : Refusal) → refusal (read_detail d k) r v b ≡ Refused q → refusal_place q ≡ 0
-  pub figure_placed : (f : Figure) (l : Lengths) (r v : ℕ) (b : List ℕ) (q : Refusal) → refusal (figure f l) r v b ≡ Refused q → Placed b q
-  pub opening_limit : (r v : ℕ) (b : List ℕ) (q : Refusal) → opening r v b ≡ Refused q → refusal_place q ≤ most_objects
-  pub place_limit : (a : Operation) (r v : ℕ) (b : List ℕ) (q : Refusal) → refusal a r v b ≡ Refused q → refusal_place q ≤ most_objects
+  pub opening_placed : (r v : ℕ) (b : List ℕ) (q : Refusal) → opening r v b ≡ Err q → Placed b q
+  pub replace_placed : (k : ℕ) (o : List ℕ) (r v : ℕ) (b : List ℕ) (q : Refusal) → refusal (replace k o) r v b ≡ Err q → ReplacePlaced k o r v b q
+  pub insert_placed : (k : ℕ) (o : List ℕ) (r v : ℕ) (b : List ℕ) (q : Refusal) → refusal (insert k o) r v b ≡ Err q → InsertPlaced k o r v b q
+  pub remove_placed : (k r v : ℕ) (b : List ℕ) (q : Refusal) → refusal (remove k) r v b ≡ Err q → RemovePlaced k r v b q
+  pub record-placed : (k r v : ℕ) (b : List ℕ) (q : Refusal) → refusal (read_record k) r v b ≡ Err q → refusal_place q ≡ 0
+  pub values_placed : (k r v : ℕ) (b : List ℕ) (q : Refusal) → refusal (read_values k) r v b ≡ Err q → refusal_place q ≡ 0
+  pub detail_placed : (d : Detail) (k r v : ℕ) (b : List ℕ) (q : Refusal) → refusal (read_detail d k) r v b ≡ Err q → refusal_place q ≡ 0
+  pub figure_placed : (f : Figure) (l : Lengths) (r v : ℕ) (b : List ℕ) (q : Refusal) → refusal (figure f l) r v b ≡ Err q → Placed b q
+  pub opening_limit : (r v : ℕ) (b : List ℕ) (q : Refusal) → opening r v b ≡ Err q → refusal_place q ≤ most_objects
+  pub place_limit : (a : Operation) (r v : ℕ) (b : List ℕ) (q : Refusal) → refusal a r v b ≡ Err q → refusal_place q ≤ most_objects
   pub refusal_told : (q q' : Refusal) → refusal_number q ≡ refusal_number q' → refusal_place q ≡ refusal_place q' → q ≡ q'
   -- a figure is worked out exactly where the chart meets none of 1 to 6, the values have N entries, each skill has 8,192 numbers of scratch, and what comes with
   -- the call passes
   pub figure_accepted : (f : Figure) (l : Lengths) (r v : ℕ) (b : List ℕ)
-      → (refusal (figure f l) r v b ≡ Accepted)
-      ↔ (Opens b × (value_width * count b ≤ v) × (scratch_short l ≡ false) × (first_of (asked_conditions f (count b)) ≡ Accepted))
+      → (refusal (figure f l) r v b ≡ Ok tt)
+      ↔ (Opens b × (value_width * count b ≤ v) × (scratch_short l ≡ false) × (first_of (asked_conditions f (count b)) ≡ Ok tt))
   -- "Carried out, it leaves all scratch 0; refused, as it was lent"
-  pub scratch_cleared : (f : Figure) (x : Scratch) (st : State) → verdict_in (figure f (lengths x)) st ≡ Accepted → scratch_after f st x
+  pub scratch_cleared : (f : Figure) (x : Scratch) (st : State) → verdict_in (figure f (lengths x)) st ≡ Ok tt → scratch_after f st x
       ≡ record { aim = zeros x.aim; aim_no_sliders = zeros x.aim_no_sliders; speed = zeros x.speed; flashlight = zeros x.flashlight }
-  pub scratch_kept : (f : Figure) (x : Scratch) (st : State) (q : Refusal) → verdict_in (figure f (lengths x)) st ≡ Refused q → scratch_after f st x ≡ x
+  pub scratch_kept : (f : Figure) (x : Scratch) (st : State) (q : Refusal) → verdict_in (figure f (lengths x)) st ≡ Err q → scratch_after f st x ≡ x
   -- the list of order 10: carried out, entry m equals a separate working out for m, which for m = N is the ordinary answer; entries past N keep what they held, and
   -- all of them do when it is refused
   pub playing_entry : (l : Lengths) (st : State) (t : List Float) (m : ℕ)
       → let a : Operation = figure (playing (length t / totals_width)) l in
-      verdict_in a st ≡ Accepted → m ≤ count st.chart
+      verdict_in a st ≡ Ok tt → m ≤ count st.chart
       → row totals_width (list_after (outcome a st).answer t) m ≡ total_row (reached_of m (settings_in st) st.chart (row value_width st.values))
   pub playing_whole : (s : Settings) (b : List ℕ) (vs : ℕ → List Float) → figure_of (totals_to (count b)) s b vs ≡ figure_of totals s b vs
   pub playing_rest : (l : Lengths) (st : State) (t : List Float)
       → let a : Operation = figure (playing (length t / totals_width)) l in let behind = totals_width * (count st.chart + 1) in
       drop behind (list_after (outcome a st).answer t) ≡ drop behind t
   pub playing_refused : (l : Lengths) (st : State) (t : List Float) (q : Refusal)
-      → let a : Operation = figure (playing (length t / totals_width)) l in verdict_in a st ≡ Refused q → list_after (outcome a st).answer t ≡ t
+      → let a : Operation = figure (playing (length t / totals_width)) l in verdict_in a st ≡ Err q → list_after (outcome a st).answer t ≡ t
   -- aim's parts, put together by the Rust's last lines, are its value, from any records; and the rule names the side that the last max takes
   pub aim_together : (v : View) (before : ℕ) (sliders : Bool) → combine_of (parts_of v before sliders) sliders ≡ aim_of v before sliders
   pub aim_rule : (acute wide : Float) → max_of acute wide ≡ side_of (rule_of acute wide) acute wide

@@ -1,4 +1,5 @@
 -- What an accepted chart tells of its tables, for either player. Assumes nothing.
+use Rattle.std.specs.Prelude.{Ok}
 use Prim.Native.Nat.{ℕ, ◌≤◌}
 use mathlib.Core.Path.{◌≡◌, sym, ◌∙◌}
 use mathlib.Core.List.{List}
@@ -8,7 +9,6 @@ use Rattle.chart_opening.specs.Limits.{settings_size}
 use Rattle.chart_opening.specs.Header.{layout_of, settings_at}
 use Rattle.chart_opening.specs.Accepted.{header_ok_lem, opens_with, tail_accepts, first_accepts, enough}
 use Rattle.chart_opening.specs.Conditions.{Opens, body_conditions, under_conditions, open_verdict}
-use Rattle.chart_opening.specs.declared.Verdict.TheVariants.{Accepted}
 use Rattle.chart_opening.proofs.Header.{parts, framed, holds_framed}
 use Rattle.osu_object.specs.Osu.{Ready}
 use Rattle.osu_difficulty_object.proofs.Accepted.{body_ready, chart_ready}
@@ -21,7 +21,7 @@ use Rattle.calls.proofs.Refusals.{opening_met}
 use Rattle.calls_players.specs.Same.{count_under}
 use Rattle.calls_editor.specs.Answers.{Fits}
 
-pub fits : (b : List ℕ) (r v : ℕ) → opening r v b ≡ Accepted → Fits b r v
+pub fits : (b : List ℕ) (r v : ℕ) → opening r v b ≡ Ok tt → Fits b r v
 fits b r v e =
     let (o, room) = opening_met r v b e in
     let ready : Ready b (layout_of b) = chart_ready b o in
@@ -32,7 +32,7 @@ pub fits_by : (b : List ℕ) (r v : ℕ) → Opens b → (layout_of b).n ≤ ent
 fits_by b r v o h = fits b r v (opens_with b (entries_of r v) o h)
 
 -- for the second player
-pub fits_as : (t b : List ℕ) (r v : ℕ) → second_verdict t b (open_verdict (under t b) (entries_of r v)) ≡ Accepted → Fits b r v × (length t ≡ settings_size)
+pub fits_as : (t b : List ℕ) (r v : ℕ) → second_verdict t b (open_verdict (under t b) (entries_of r v)) ≡ Ok tt → Fits b r v × (length t ≡ settings_size)
 unfolding under_conditions
 fits_as t b r v e =
     let p = second_accepted t b _ e in

@@ -1,4 +1,5 @@
 -- An edit, by the condition that it meets: refused it changes nothing, accepted it is carried out. Assumes nothing.
+use Rattle.std.specs.Prelude.{Ok, Err}
 use Prim.Native.Nat.{ℕ, ◌-◌, min, max}
 use mathlib.Core.Path.{◌≡◌, refl, ap}
 use mathlib.Core.List.{List}
@@ -10,8 +11,7 @@ use Rattle.chart_opening.specs.Header.{layout_of, settings_of}
 use Rattle.chart_opening.specs.Conditions.{if_accepted}
 use Rattle.chart_opening.specs.declared.Settings.{Settings}
 use Rattle.chart_opening.specs.declared.Refusal.{Refusal}
-use Rattle.chart_opening.specs.declared.Verdict.{Verdict}
-use Rattle.chart_opening.specs.declared.Verdict.TheVariants.{Accepted, Refused}
+use Rattle.chart_opening.specs.Verdict.{Verdict}
 use Rattle.chart_replacing.specs.Replace.{put_object, replace_verdict}
 use Rattle.chart_inserting.specs.Insert.{insert_object, remove_object, insert_verdict, remove_verdict}
 use Rattle.eval_values.specs.Values.{values_in}
@@ -47,18 +47,18 @@ module _ (b : List ℕ) (rs vs : List Float) where
   unfolding open_answer
   opening_is v e = e
 
-  pub open_refused : (r : Refusal) → opening (length rs) (length vs) b ≡ Refused r → open_leaves (state b rs vs) ≡ state b rs vs
+  pub open_refused : (r : Refusal) → opening (length rs) (length vs) b ≡ Err r → open_leaves (state b rs vs) ≡ state b rs vs
   unfolding open_leaves open_answer if_accepted
   open_refused r e = ap (λ (v : Verdict). if_accepted v (opened (state b rs vs)) (λ q. state b rs vs)) e
 
-  pub open_accepted : opening (length rs) (length vs) b ≡ Accepted → open_leaves (state b rs vs) ≡ opened (state b rs vs)
+  pub open_accepted : opening (length rs) (length vs) b ≡ Ok tt → open_leaves (state b rs vs) ≡ opened (state b rs vs)
   unfolding open_leaves open_answer if_accepted
   open_accepted e = ap (λ (v : Verdict). if_accepted v (opened (state b rs vs)) (λ q. state b rs vs)) e
 
   -- ---- Replacing
 
   module _ (k : ℕ) (o : List ℕ) where
-    pub replace_refused : (r : Refusal) → replace_verdict b k o (entries_of (length rs) (length vs)) ≡ Refused r
+    pub replace_refused : (r : Refusal) → replace_verdict b k o (entries_of (length rs) (length vs)) ≡ Err r
         → outcome (replace k o) (state b rs vs) ≡ outcome_with (refused r) b rs vs
     unfolding verdict_in refusal refuse
     replace_refused r e = refused_as (replace k o) (state b rs vs) r e
@@ -69,14 +69,14 @@ module _ (b : List ℕ) (rs vs : List Float) where
         let rs' = edit_records (settings_of b') b' k (replaced_records k) rs in
         outcome_with replaced b' rs' (edit_values (settings_of b') b' k (replaced_values k) rs' vs)
 
-    pub replace_accepted : replace_verdict b k o (entries_of (length rs) (length vs)) ≡ Accepted → outcome (replace k o) (state b rs vs) ≡ brought (put_object k o b)
+    pub replace_accepted : replace_verdict b k o (entries_of (length rs) (length vs)) ≡ Ok tt → outcome (replace k o) (state b rs vs) ≡ brought (put_object k o b)
     unfolding verdict_in refusal execute edited
     replace_accepted e = carried_out (replace k o) (state b rs vs) e
 
   -- ---- Inserting and removing
 
   module _ (k : ℕ) (o : List ℕ) where
-    pub insert_refused : (r : Refusal) → insert_verdict b k o (entries_of (length rs) (length vs)) ≡ Refused r
+    pub insert_refused : (r : Refusal) → insert_verdict b k o (entries_of (length rs) (length vs)) ≡ Err r
         → outcome (insert k o) (state b rs vs) ≡ outcome_with (refused r) b rs vs
     unfolding verdict_in refusal refuse
     insert_refused r e = refused_as (insert k o) (state b rs vs) r e
@@ -87,12 +87,12 @@ module _ (b : List ℕ) (rs vs : List Float) where
         let rs' = edit_records (settings_of b') b' k (inserted_records k) (rows_up record_width (first_moved k) (layout_of b).n rs) in
         outcome_with inserted b' rs' (edit_values (settings_of b') b' k (inserted_values k) rs' (rows_up value_width (first_moved k) (layout_of b).n vs))
 
-    pub insert_accepted : insert_verdict b k o (entries_of (length rs) (length vs)) ≡ Accepted → outcome (insert k o) (state b rs vs) ≡ put_in_lem (insert_object k o b)
+    pub insert_accepted : insert_verdict b k o (entries_of (length rs) (length vs)) ≡ Ok tt → outcome (insert k o) (state b rs vs) ≡ put_in_lem (insert_object k o b)
     unfolding verdict_in refusal execute put_in
     insert_accepted e = carried_out (insert k o) (state b rs vs) e
 
   module _ (k : ℕ) where
-    pub remove_refused : (r : Refusal) → remove_verdict b k (entries_of (length rs) (length vs)) ≡ Refused r → outcome (remove k) (state b rs vs) ≡ outcome_with (refused r) b rs vs
+    pub remove_refused : (r : Refusal) → remove_verdict b k (entries_of (length rs) (length vs)) ≡ Err r → outcome (remove k) (state b rs vs) ≡ outcome_with (refused r) b rs vs
     unfolding verdict_in refusal refuse
     remove_refused r e = refused_as (remove k) (state b rs vs) r e
 
@@ -101,6 +101,6 @@ module _ (b : List ℕ) (rs vs : List Float) where
         let rs' = edit_records (settings_of b') b' k (removed_records k) (rows_down record_width (first_moved k) (layout_of b).n rs) in
         outcome_with removed b' rs' (edit_values (settings_of b') b' k (removed_values k) rs' (rows_down value_width (first_moved k) (layout_of b).n vs))
 
-    pub remove_accepted : remove_verdict b k (entries_of (length rs) (length vs)) ≡ Accepted → outcome (remove k) (state b rs vs) ≡ outcome_out (remove_object k b)
+    pub remove_accepted : remove_verdict b k (entries_of (length rs) (length vs)) ≡ Ok tt → outcome (remove k) (state b rs vs) ≡ outcome_out (remove_object k b)
     unfolding verdict_in refusal execute taken_out
     remove_accepted e = carried_out (remove k) (state b rs vs) e

@@ -1,4 +1,5 @@
 -- An edit for both players: what it answers, what it leaves of both players' tables, and what a chart after an accepted edit tells of them. Assumes nothing.
+use Rattle.std.specs.Prelude.{Ok, Err}
 use Prim.Native.Nat.{ℕ, suc, ◌+◌, ◌-◌, ◌*◌, ◌≤◌, ◌<◌}
 use mathlib.Core.Path.{◌≡◌, refl, sym, ap, ◌∙◌}
 use mathlib.Core.List.{List}
@@ -13,8 +14,7 @@ use Rattle.chart_opening.specs.Accepted.{header_ok_lem}
 use Rattle.chart_opening.specs.Conditions.{if_accepted, open_verdict}
 use Rattle.chart_opening.specs.declared.Settings.{Settings}
 use Rattle.chart_opening.specs.declared.Refusal.{Refusal}
-use Rattle.chart_opening.specs.declared.Verdict.{Verdict}
-use Rattle.chart_opening.specs.declared.Verdict.TheVariants.{Accepted, Refused}
+use Rattle.chart_opening.specs.Verdict.{Verdict}
 use Rattle.chart_opening.proofs.Header.{parts}
 use Rattle.chart_replacing.specs.Replace.{put_object, replace_verdict}
 use Rattle.chart_replacing.specs.Accepted.{Taken}
@@ -51,10 +51,10 @@ module _ (b : List ℕ) (k : ℕ) (o : List ℕ) (r v : ℕ) where
   replaced_as : Taken b k o → count b ≤ entries_of r v → Fits (put_object k o b) r v × (k < count (put_object k o b))
   replaced_as x h = let n = count_same k o b x in (fits_by (put_object k o b) r v x.becomes (omega (arith, n, h)), omega (arith, n, x.below))
 
-  pub replaced_fits : replace_verdict b k o (entries_of r v) ≡ Accepted → Fits (put_object k o b) r v × (k < count (put_object k o b))
+  pub replaced_fits : replace_verdict b k o (entries_of r v) ≡ Ok tt → Fits (put_object k o b) r v × (k < count (put_object k o b))
   replaced_fits e = replaced_as (taken b k o (entries_of r v) e) (room b k o (entries_of r v) e)
 
-  pub replaced_fits_second : (t : List ℕ) → Taken b k o → second_verdict t b (replace_verdict (under t b) k o (entries_of r v)) ≡ Accepted
+  pub replaced_fits_second : (t : List ℕ) → Taken b k o → second_verdict t b (replace_verdict (under t b) k o (entries_of r v)) ≡ Ok tt
       → (Fits (put_object k o b) r v × (k < count (put_object k o b))) × (length t ≡ settings_size)
   replaced_fits_second t x e =
       let p = second_accepted t b _ e in
@@ -64,10 +64,10 @@ module _ (b : List ℕ) (k : ℕ) (o : List ℕ) (r v : ℕ) where
   inserted_as : Inserted b k o → count b + 1 ≤ entries_of r v → Fits (insert_object k o b) r v × (k < count (insert_object k o b))
   inserted_as x h = let n = (inserted_more b k o x).counts in (fits_by (insert_object k o b) r v x.becomes (omega (arith, n, h)), omega (arith, n, x.at))
 
-  pub inserted_fits : insert_verdict b k o (entries_of r v) ≡ Accepted → Fits (insert_object k o b) r v × (k < count (insert_object k o b))
+  pub inserted_fits : insert_verdict b k o (entries_of r v) ≡ Ok tt → Fits (insert_object k o b) r v × (k < count (insert_object k o b))
   inserted_fits e = inserted_as (inserted b k o (entries_of r v) e) (insert_entries b k o (entries_of r v) e)
 
-  pub inserted_fits_second : (t : List ℕ) → Inserted b k o → second_verdict t b (insert_verdict (under t b) k o (entries_of r v)) ≡ Accepted
+  pub inserted_fits_second : (t : List ℕ) → Inserted b k o → second_verdict t b (insert_verdict (under t b) k o (entries_of r v)) ≡ Ok tt
       → (Fits (insert_object k o b) r v × (k < count (insert_object k o b))) × (length t ≡ settings_size)
   inserted_fits_second t x e =
       let p = second_accepted t b _ e in
@@ -84,10 +84,10 @@ module _ (b : List ℕ) (k r v : ℕ) where
       let n : count b ≡ suc (count (remove_object k b)) = (removed_more b k x).counts in
       (fits_by (remove_object k b) r v x.becomes (omega (arith, n, h)), omega (arith, n, x.below), omega (arith, n, h), omega (arith, n, h))
 
-  pub removed_fits : remove_verdict b k (entries_of r v) ≡ Accepted → FitsMore (remove_object k b) k r v
+  pub removed_fits : remove_verdict b k (entries_of r v) ≡ Ok tt → FitsMore (remove_object k b) k r v
   removed_fits e = removed_as (removed b k (entries_of r v) e) (remove_entries b k (entries_of r v) e)
 
-  pub removed_fits_second : (t : List ℕ) → Removed b k → second_verdict t b (remove_verdict (under t b) k (entries_of r v)) ≡ Accepted
+  pub removed_fits_second : (t : List ℕ) → Removed b k → second_verdict t b (remove_verdict (under t b) k (entries_of r v)) ≡ Ok tt
       → FitsMore (remove_object k b) k r v × (length t ≡ settings_size)
   removed_fits_second t x e =
       let p = second_accepted t b _ e in
@@ -137,7 +137,7 @@ module _ (t b : List ℕ) (rs vs rs₂ vs₂ : List Float) where
     unfolding both_answer verdict_as verdict_in refusal seen
     replace_both_is v e = e
 
-    pub replace_both_left : both_verdict (replace_verdict b k o mine) (second_verdict t b (replace_verdict (under t b) k o theirs)) ≡ Accepted
+    pub replace_both_left : both_verdict (replace_verdict b k o mine) (second_verdict t b (replace_verdict (under t b) k o theirs)) ≡ Ok tt
         → let b' = put_object k o b in both_leaves t (replace k o) players
         ≡ after_both b' (brought (settings_of b') b' k (replaced_records k) (replaced_values k) rs vs) (brought (settings_at t 0) b' k (replaced_records k) (replaced_values k) rs₂ vs₂)
     unfolding edited_both execute edited seen
@@ -158,7 +158,7 @@ module _ (t b : List ℕ) (rs vs rs₂ vs₂ : List Float) where
     unfolding both_answer verdict_as verdict_in refusal seen
     insert_both_is v e = e
 
-    pub insert_both_left : both_verdict (insert_verdict b k o mine) (second_verdict t b (insert_verdict (under t b) k o theirs)) ≡ Accepted
+    pub insert_both_left : both_verdict (insert_verdict b k o mine) (second_verdict t b (insert_verdict (under t b) k o theirs)) ≡ Ok tt
         → let b' = insert_object k o b in let up = rows_up record_width (first_moved k) (count b) in let upv = rows_up value_width (first_moved k) (count b) in
         both_leaves t (insert k o) players
         ≡ after_both b' (brought (settings_of b') b' k (inserted_records k) (inserted_values k) (up rs) (upv vs)) (brought (settings_at t 0) b' k (inserted_records k) (inserted_values k) (up rs₂) (upv vs₂))
@@ -184,7 +184,7 @@ module _ (t b : List ℕ) (rs vs rs₂ vs₂ : List Float) where
     unfolding both_answer verdict_as verdict_in refusal seen
     remove_both_is v e = e
 
-    pub remove_both_left : both_verdict (remove_verdict b k mine) (second_verdict t b (remove_verdict (under t b) k theirs)) ≡ Accepted
+    pub remove_both_left : both_verdict (remove_verdict b k mine) (second_verdict t b (remove_verdict (under t b) k theirs)) ≡ Ok tt
         → let b' = remove_object k b in let down = rows_down record_width (first_moved k) (count b) in let downv = rows_down value_width (first_moved k) (count b) in
         both_leaves t (remove k) players
         ≡ after_both b' (brought (settings_of b') b' k (removed_records k) (removed_values k) (down rs) (downv vs)) (brought (settings_at t 0) b' k (removed_records k) (removed_values k) (down rs₂) (downv vs₂))
@@ -212,11 +212,11 @@ module _ (t b : List ℕ) (rs vs : List Float) where
   unfolding open_answer_as open_answer seen
   open_as_is v e = e
 
-  pub open_as_refused : (r : Refusal) → second_verdict t b (open_verdict (under t b) (entries_of (length rs) (length vs))) ≡ Refused r → open_leaves_as t (state b rs vs) ≡ state b rs vs
+  pub open_as_refused : (r : Refusal) → second_verdict t b (open_verdict (under t b) (entries_of (length rs) (length vs))) ≡ Err r → open_leaves_as t (state b rs vs) ≡ state b rs vs
   unfolding open_leaves_as open_answer_as open_answer if_accepted seen
   open_as_refused r e = ap (λ (v : Verdict). if_accepted v (opened_as t (state b rs vs)) (λ q. state b rs vs)) e
 
-  pub open_as_accepted : second_verdict t b (open_verdict (under t b) (entries_of (length rs) (length vs))) ≡ Accepted
+  pub open_as_accepted : second_verdict t b (open_verdict (under t b) (entries_of (length rs) (length vs))) ≡ Ok tt
       → open_leaves_as t (state b rs vs) ≡ state b (open_records (settings_at t 0) b rs) (open_values (settings_at t 0) b (open_records (settings_at t 0) b rs) vs)
   unfolding open_leaves_as open_answer_as open_answer if_accepted opened_as opened seen
   open_as_accepted e =

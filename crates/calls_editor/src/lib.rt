@@ -14,7 +14,7 @@ ghost use Rattle.calls_players.specs.Second.{open_answer_as, open_leaves_as};
 ghost use Rattle.calls_players.specs.Both.{pair, both_answer, both_leaves};
 ghost use Rattle.calls_editor.specs.Answers.{Fits, replace_answer, insert_answer, remove_answer};
 
-use chart_opening::{Refusal, Settings, Verdict};
+use chart_opening::{Refusal, Settings};
 
 // The later of 1 and k.
 fn from_one(k: usize) -> usize
@@ -49,38 +49,34 @@ pub fn fill_tables(chart: &[u8], set: Settings, records: &mut [f64], values: &mu
 }
 
 // Checks a chart under the second player's settings and fills that player's tables.
-pub fn open_as(chart: &[u8], settings: &[u8], records: &mut [f64], values: &mut [f64]) -> Verdict
+pub fn open_as(chart: &[u8], settings: &[u8], records: &mut [f64], values: &mut [f64]) -> Result<(), Refusal>
     ensures answer { result
         ≡ open_answer_as settings.now (state chart.now records.old values.old) }
     ensures leaves { state chart.now records.new values.new
         ≡ open_leaves_as settings.now (state chart.now records.old values.old) }
 {
-    match chart_players::check_as(
+    chart_players::check_as(
         chart,
         settings,
         calls::entries_in(records.len(), values.len()),
-    ) {
-        Verdict::Refused(r) => Verdict::Refused(r),
-        Verdict::Accepted => {
-            fill_tables(
-                chart,
-                chart_opening::settings_at(settings, 0),
-                records,
-                values,
-            );
-            Verdict::Accepted
-        }
-    }
+    )?;
+    fill_tables(
+        chart,
+        chart_opening::settings_at(settings, 0),
+        records,
+        values,
+    );
+    Ok(())
 }
 
 // Checks a chart and fills its tables.
-pub fn open(chart: &[u8], records: &mut [f64], values: &mut [f64]) -> Verdict
+pub fn open(chart: &[u8], records: &mut [f64], values: &mut [f64]) -> Result<(), Refusal>
     ensures answer { result ≡ open_answer (state chart.now records.old values.old) }
     ensures leaves { state chart.now records.new values.new
         ≡ open_leaves (state chart.now records.old values.old) }
 {
     if chart.len() < chart_fields::HEADER_SIZE {
-        return Verdict::Refused(Refusal::Header);
+        return Err(Refusal::Header);
     }
     open_as(chart, &chart[32..80], records, values)
 }
@@ -139,23 +135,19 @@ pub fn replace(
     object: &[u8],
     records: &mut [f64],
     values: &mut [f64],
-) -> Verdict
+) -> Result<(), Refusal>
     ensures { outcome_with (replace_answer result) chart.new records.new values.new
         ≡ outcome (ops.replace place object.now) (state chart.old records.old values.old) }
 {
-    match chart_replacing::replace(
+    chart_replacing::replace(
         chart,
         place,
         object,
         calls::entries_in(records.len(), values.len()),
-    ) {
-        Verdict::Refused(r) => Verdict::Refused(r),
-        Verdict::Accepted => {
-            let set = chart_opening::settings_at(chart, calls::SETTINGS_AT);
-            replace_rows(chart, set, place, records, values);
-            Verdict::Accepted
-        }
-    }
+    )?;
+    let set = chart_opening::settings_at(chart, calls::SETTINGS_AT);
+    replace_rows(chart, set, place, records, values);
+    Ok(())
 }
 
 // The larger of two numbers.
@@ -250,23 +242,19 @@ pub fn insert(
     object: &[u8],
     records: &mut [f64],
     values: &mut [f64],
-) -> Verdict
+) -> Result<(), Refusal>
     ensures { outcome_with (insert_answer result) chart.new records.new values.new
         ≡ outcome (ops.insert place object.now) (state chart.old records.old values.old) }
 {
-    match chart_inserting::insert(
+    chart_inserting::insert(
         chart,
         place,
         object,
         calls::entries_in(records.len(), values.len()),
-    ) {
-        Verdict::Refused(r) => Verdict::Refused(r),
-        Verdict::Accepted => {
-            let set = chart_opening::settings_at(chart, calls::SETTINGS_AT);
-            insert_rows(chart, set, place, records, values);
-            Verdict::Accepted
-        }
-    }
+    )?;
+    let set = chart_opening::settings_at(chart, calls::SETTINGS_AT);
+    insert_rows(chart, set, place, records, values);
+    Ok(())
 }
 
 // Moves the rows of later objects down and makes anew what an object taken out at a place can have changed, once the chart is without it.
@@ -287,18 +275,14 @@ fn remove_rows(chart: &[u8], set: Settings, place: usize, records: &mut [f64], v
 }
 
 // Takes the object at a place out: what lies behind it moves down, and rows with their objects.
-pub fn remove(chart: &mut [u8], place: usize, records: &mut [f64], values: &mut [f64]) -> Verdict
+pub fn remove(chart: &mut [u8], place: usize, records: &mut [f64], values: &mut [f64]) -> Result<(), Refusal>
     ensures { outcome_with (remove_answer result) chart.new records.new values.new
         ≡ outcome (ops.remove place) (state chart.old records.old values.old) }
 {
-    match chart_inserting::remove(chart, place, calls::entries_in(records.len(), values.len())) {
-        Verdict::Refused(r) => Verdict::Refused(r),
-        Verdict::Accepted => {
-            let set = chart_opening::settings_at(chart, calls::SETTINGS_AT);
-            remove_rows(chart, set, place, records, values);
-            Verdict::Accepted
-        }
-    }
+    chart_inserting::remove(chart, place, calls::entries_in(records.len(), values.len()))?;
+    let set = chart_opening::settings_at(chart, calls::SETTINGS_AT);
+    remove_rows(chart, set, place, records, values);
+    Ok(())
 }
 
 // Puts an object at a place of the chart and brings the tables up to date for both players, the second with these settings.
@@ -311,30 +295,26 @@ pub fn replace_both(
     values: &mut [f64],
     second_records: &mut [f64],
     second_values: &mut [f64],
-) -> Verdict
+) -> Result<(), Refusal>
     ensures answer { result ≡ both_answer settings.now (ops.replace place object.now)
         (pair chart.old records.old values.old second_records.old second_values.old) }
     ensures leaves { pair chart.new records.new values.new second_records.new second_values.new
         ≡ both_leaves settings.now (ops.replace place object.now)
         (pair chart.old records.old values.old second_records.old second_values.old) }
 {
-    match chart_players::replace_both(
+    chart_players::replace_both(
         chart,
         settings,
         place,
         object,
         calls::entries_in(records.len(), values.len()),
         calls::entries_in(second_records.len(), second_values.len()),
-    ) {
-        Verdict::Refused(r) => Verdict::Refused(r),
-        Verdict::Accepted => {
-            let set = chart_opening::settings_at(chart, calls::SETTINGS_AT);
-            replace_rows(chart, set, place, records, values);
-            let second = chart_opening::settings_at(settings, 0);
-            replace_rows(chart, second, place, second_records, second_values);
-            Verdict::Accepted
-        }
-    }
+    )?;
+    let set = chart_opening::settings_at(chart, calls::SETTINGS_AT);
+    replace_rows(chart, set, place, records, values);
+    let second = chart_opening::settings_at(settings, 0);
+    replace_rows(chart, second, place, second_records, second_values);
+    Ok(())
 }
 
 // Puts an object in before a place of the chart and brings the tables up to date for both players, the second with these settings.
@@ -347,30 +327,26 @@ pub fn insert_both(
     values: &mut [f64],
     second_records: &mut [f64],
     second_values: &mut [f64],
-) -> Verdict
+) -> Result<(), Refusal>
     ensures answer { result ≡ both_answer settings.now (ops.insert place object.now)
         (pair chart.old records.old values.old second_records.old second_values.old) }
     ensures leaves { pair chart.new records.new values.new second_records.new second_values.new
         ≡ both_leaves settings.now (ops.insert place object.now)
         (pair chart.old records.old values.old second_records.old second_values.old) }
 {
-    match chart_players::insert_both(
+    chart_players::insert_both(
         chart,
         settings,
         place,
         object,
         calls::entries_in(records.len(), values.len()),
         calls::entries_in(second_records.len(), second_values.len()),
-    ) {
-        Verdict::Refused(r) => Verdict::Refused(r),
-        Verdict::Accepted => {
-            let set = chart_opening::settings_at(chart, calls::SETTINGS_AT);
-            insert_rows(chart, set, place, records, values);
-            let second = chart_opening::settings_at(settings, 0);
-            insert_rows(chart, second, place, second_records, second_values);
-            Verdict::Accepted
-        }
-    }
+    )?;
+    let set = chart_opening::settings_at(chart, calls::SETTINGS_AT);
+    insert_rows(chart, set, place, records, values);
+    let second = chart_opening::settings_at(settings, 0);
+    insert_rows(chart, second, place, second_records, second_values);
+    Ok(())
 }
 
 // Takes the object at a place out and brings the tables up to date for both players, the second with these settings.
@@ -382,27 +358,23 @@ pub fn remove_both(
     values: &mut [f64],
     second_records: &mut [f64],
     second_values: &mut [f64],
-) -> Verdict
+) -> Result<(), Refusal>
     ensures answer { result ≡ both_answer settings.now (ops.remove place)
         (pair chart.old records.old values.old second_records.old second_values.old) }
     ensures leaves { pair chart.new records.new values.new second_records.new second_values.new
         ≡ both_leaves settings.now (ops.remove place)
         (pair chart.old records.old values.old second_records.old second_values.old) }
 {
-    match chart_players::remove_both(
+    chart_players::remove_both(
         chart,
         settings,
         place,
         calls::entries_in(records.len(), values.len()),
         calls::entries_in(second_records.len(), second_values.len()),
-    ) {
-        Verdict::Refused(r) => Verdict::Refused(r),
-        Verdict::Accepted => {
-            let set = chart_opening::settings_at(chart, calls::SETTINGS_AT);
-            remove_rows(chart, set, place, records, values);
-            let second = chart_opening::settings_at(settings, 0);
-            remove_rows(chart, second, place, second_records, second_values);
-            Verdict::Accepted
-        }
-    }
+    )?;
+    let set = chart_opening::settings_at(chart, calls::SETTINGS_AT);
+    remove_rows(chart, set, place, records, values);
+    let second = chart_opening::settings_at(settings, 0);
+    remove_rows(chart, second, place, second_records, second_values);
+    Ok(())
 }

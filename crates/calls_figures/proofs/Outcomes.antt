@@ -1,5 +1,6 @@
 -- A figure for the second player, by the condition that it meets: refused it changes nothing, carried out it leaves the scratch cleared; and the first player's
 -- figure, which is the second's under the header's own settings. Assumes nothing.
+use Rattle.std.specs.Prelude.{Ok, Err}
 use Prim.Native.Nat.{ℕ, ◌+◌, ◌≤◌, ◌<◌}
 use mathlib.Core.Path.{◌≡◌, refl, sym, ap, ◌∙◌}
 use mathlib.Core.Bool.{Bool, true, false}
@@ -16,8 +17,7 @@ use Rattle.chart_opening.specs.Conditions.{refuse_if, first_of, open_verdict}
 use Rattle.chart_opening.specs.declared.Settings.{Settings}
 use Rattle.chart_opening.specs.declared.Refusal.{Refusal}
 use Rattle.chart_opening.specs.declared.Refusal.TheVariants.{Header, Table, Place, NotFinite}
-use Rattle.chart_opening.specs.declared.Verdict.{Verdict}
-use Rattle.chart_opening.specs.declared.Verdict.TheVariants.{Accepted, Refused}
+use Rattle.chart_opening.specs.Verdict.{Verdict}
 use Rattle.chart_opening.proofs.Header.{framed, holds_framed}
 use Rattle.chart_opening.proofs.Body.{last}
 use Rattle.chart_players.specs.Second.{under, second_verdict}
@@ -39,10 +39,10 @@ use Rattle.calls_players.proofs.Own.{outcome_short, scratch_short_lem, as_refuse
 use Rattle.calls_figures.specs.Answers.{Sums, Counted}
 
 -- a condition, and others behind it
-then_refused : {v : Verdict} (vs : List Verdict) (r : Refusal) → v ≡ Refused r → first_of (v ∷ vs) ≡ Refused r
+then_refused : {v : Verdict} (vs : List Verdict) (r : Refusal) → v ≡ Err r → first_of (v ∷ vs) ≡ Err r
 then_refused vs r e = ap (λ (w : Verdict). first_of (w ∷ vs)) e ∙ refused_first r vs
 
-then_passed : {v : Verdict} (vs : List Verdict) → v ≡ Accepted → first_of (v ∷ vs) ≡ first_of vs
+then_passed : {v : Verdict} (vs : List Verdict) → v ≡ Ok tt → first_of (v ∷ vs) ≡ first_of vs
 then_passed vs e = ap (λ (w : Verdict). first_of (w ∷ vs)) e ∙ accepted_first vs
 
 -- ---- Conditions 1 to 7
@@ -53,23 +53,23 @@ module _ (t b : List ℕ) (entries : ℕ) (short : Bool) where
     where
       go : (v : Verdict) → open_verdict (under t b) entries ≡ v
           → sum_verdict (under t b) entries short ≡ first_of (open_verdict (under t b) entries ∷ refuse_if short Table ∷ [])
-      go Accepted e = sum_passed (under t b) entries short e ∙ sym (then_passed (refuse_if short Table ∷ []) e ∙ last (refuse_if short Table))
-      go (Refused q) e = sum_refused (under t b) entries short q e ∙ sym (then_refused (refuse_if short Table ∷ []) q e)
+      go (Ok tt) e = sum_passed (under t b) entries short e ∙ sym (then_passed (refuse_if short Table ∷ []) e ∙ last (refuse_if short Table))
+      go (Err q) e = sum_refused (under t b) entries short q e ∙ sym (then_refused (refuse_if short Table ∷ []) q e)
 
   second_sum : second_verdict t b (sum_verdict (under t b) entries short)
       ≡ first_of (second_verdict t b (open_verdict (under t b) entries) ∷ refuse_if short Table ∷ [])
   second_sum = ap (second_verdict t b) sum_then ∙ second_then t b _ _
 
-  pub sums_refused : (r : Refusal) → second_verdict t b (open_verdict (under t b) entries) ≡ Refused r
-      → second_verdict t b (sum_verdict (under t b) entries short) ≡ Refused r
+  pub sums_refused : (r : Refusal) → second_verdict t b (open_verdict (under t b) entries) ≡ Err r
+      → second_verdict t b (sum_verdict (under t b) entries short) ≡ Err r
   sums_refused r e = second_sum ∙ then_refused (refuse_if short Table ∷ []) r e
 
-  pub sums_passed : second_verdict t b (open_verdict (under t b) entries) ≡ Accepted
+  pub sums_passed : second_verdict t b (open_verdict (under t b) entries) ≡ Ok tt
       → second_verdict t b (sum_verdict (under t b) entries short) ≡ refuse_if short Table
   sums_passed e = second_sum ∙ (then_passed (refuse_if short Table ∷ []) e ∙ last (refuse_if short Table))
 
 -- where they are met by none
-module _ (t b : List ℕ) (v : ℕ) (l : Lengths) (e : second_verdict t b (sum_verdict (under t b) (value_entries v) (scratch_short l)) ≡ Accepted) where
+module _ (t b : List ℕ) (v : ℕ) (l : Lengths) (e : second_verdict t b (sum_verdict (under t b) (value_entries v) (scratch_short l)) ≡ Ok tt) where
   pub sums : Sums b v l
   sums =
       let p = second_accepted t b _ e in
@@ -94,27 +94,27 @@ counted s = record { long = s.long; few = s.holds.few }
 
 -- ---- What comes with a call
 
-pub not_finite : (a : Asked) (n : ℕ) → finite_asked a ≡ false → first_of (asked_conditions (ratings a) n) ≡ Refused NotFinite
+pub not_finite : (a : Asked) (n : ℕ) → finite_asked a ≡ false → first_of (asked_conditions (ratings a) n) ≡ Err NotFinite
 unfolding asked_conditions first_of
 not_finite a n e = rw e
 
-pub all_finite : (a : Asked) (n : ℕ) → finite_asked a ≡ true → first_of (asked_conditions (ratings a) n) ≡ Accepted
+pub all_finite : (a : Asked) (n : ℕ) → finite_asked a ≡ true → first_of (asked_conditions (ratings a) n) ≡ Ok tt
 unfolding asked_conditions first_of
 all_finite a n e = rw e
 
-pub too_many : (m n : ℕ) → n < m → first_of (asked_conditions (totals_to m) n) ≡ Refused Place
+pub too_many : (m n : ℕ) → n < m → first_of (asked_conditions (totals_to m) n) ≡ Err Place
 unfolding asked_conditions first_of
 too_many m n h = rw (lt-ltb n m h)
 
-pub as_many : (m n : ℕ) → m ≤ n → first_of (asked_conditions (totals_to m) n) ≡ Accepted
+pub as_many : (m n : ℕ) → m ≤ n → first_of (asked_conditions (totals_to m) n) ≡ Ok tt
 unfolding asked_conditions first_of
 as_many m n h = rw (le-ltb n m h)
 
-pub short_list : (e n : ℕ) → e < n + 1 → first_of (asked_conditions (playing e) n) ≡ Refused Table
+pub short_list : (e n : ℕ) → e < n + 1 → first_of (asked_conditions (playing e) n) ≡ Err Table
 unfolding asked_conditions first_of
 short_list e n h = rw (lt-ltb e (n + 1) h)
 
-pub long_list : (e n : ℕ) → n + 1 ≤ e → first_of (asked_conditions (playing e) n) ≡ Accepted
+pub long_list : (e n : ℕ) → n + 1 ≤ e → first_of (asked_conditions (playing e) n) ≡ Ok tt
 unfolding asked_conditions first_of
 long_list e n h = rw (le-ltb e (n + 1) h)
 
@@ -132,37 +132,37 @@ module _ (f : Figure) (t b : List ℕ) (vs : List Float) (x : Scratch) where
       ∙ (second_then t b _ _ ∙ ap (λ (n : ℕ). first_of (tried ∷ asked_conditions f n)) (count_under t b))
 
   -- which condition it meets: of 1 to 7, or of what comes with the call
-  pub met_by_sums : (r : Refusal) → tried ≡ Refused r → verdict_as t (figure f (lengths x)) (state b [] vs) ≡ Refused r
+  pub met_by_sums : (r : Refusal) → tried ≡ Err r → verdict_as t (figure f (lengths x)) (state b [] vs) ≡ Err r
   met_by_sums r e = then_asked ∙ then_refused (asked_conditions f (count b)) r e
 
-  pub met_as_asked : (v : Verdict) → tried ≡ Accepted → first_of (asked_conditions f (count b)) ≡ v → verdict_as t (figure f (lengths x)) (state b [] vs) ≡ v
+  pub met_as_asked : (v : Verdict) → tried ≡ Ok tt → first_of (asked_conditions f (count b)) ≡ v → verdict_as t (figure f (lengths x)) (state b [] vs) ≡ v
   met_as_asked v e a = then_asked ∙ (then_passed (asked_conditions f (count b)) e ∙ a)
 
   abbrev Refuses : Refusal → Type 0
   Refuses r = (outcome_as t (figure f (lengths x)) (state b [] vs) ≡ outcome_with (refused r) b [] vs) × (scratch_after_as t f (state b [] vs) x ≡ x)
 
-  by_refusal : (r : Refusal) → verdict_as t (figure f (lengths x)) (state b [] vs) ≡ Refused r → Refuses r
+  by_refusal : (r : Refusal) → verdict_as t (figure f (lengths x)) (state b [] vs) ≡ Err r → Refuses r
   unfolding refuse
   by_refusal r e = (as_refused t (figure f (lengths x)) (state b [] vs) r e, scratch_kept_as t f (state b [] vs) x r e)
 
-  pub refused_by_sums : (r : Refusal) → tried ≡ Refused r → Refuses r
+  pub refused_by_sums : (r : Refusal) → tried ≡ Err r → Refuses r
   refused_by_sums r e = by_refusal r (met_by_sums r e)
 
-  pub refused_as_asked : (r : Refusal) → tried ≡ Accepted → first_of (asked_conditions f (count b)) ≡ Refused r → Refuses r
-  refused_as_asked r e a = by_refusal r (met_as_asked (Refused r) e a)
+  pub refused_as_asked : (r : Refusal) → tried ≡ Ok tt → first_of (asked_conditions f (count b)) ≡ Err r → Refuses r
+  refused_as_asked r e a = by_refusal r (met_as_asked (Err r) e a)
 
   -- what it comes to, under the settings that come with the call
-  amount : tried ≡ Accepted → figure_from f (settings_of (under t b)) (under t b) vs ≡ figure_from f (settings_at t 0) b vs
+  amount : tried ≡ Ok tt → figure_from f (settings_of (under t b)) (under t b) vs ≡ figure_from f (settings_at t 0) b vs
   amount e =
       let p = second_accepted t b _ e in
       ap (λ (s : Settings). figure_from f s (under t b) vs) (settings_are t b p.header p.size) ∙ figure_under t b (settings_at t 0) f vs
 
-  pub worked_out : tried ≡ Accepted → first_of (asked_conditions f (count b)) ≡ Accepted
+  pub worked_out : tried ≡ Ok tt → first_of (asked_conditions f (count b)) ≡ Ok tt
       → (outcome_as t (figure f (lengths x)) (state b [] vs) ≡ outcome_with (figure_is (figure_from f (settings_at t 0) b vs)) b [] vs)
       × (scratch_after_as t f (state b [] vs) x ≡ cleared x)
   unfolding execute seen
   worked_out e a =
-      let v = met_as_asked Accepted e a in
+      let v = met_as_asked (Ok tt) e a in
       (as_carried t (figure f (lengths x)) (state b [] vs) v ∙ ap (λ (y : Amount). outcome_with (figure_is y) b [] vs) (amount e), scratch_cleared_as t f (state b [] vs) x v)
 
 -- the list of the totals while playing

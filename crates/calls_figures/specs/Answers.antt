@@ -1,18 +1,16 @@
 -- What each figure's answer stands for among the answers of crate calls, and what a chart with its values and scratch has to be. Definitions only.
-use Rattle.std.specs.Prelude.{List, ℕ, ◌*◌, ◌≤◌, Float, length}
+use Rattle.std.specs.Prelude.{List, ℕ, ◌*◌, ◌≤◌, Float, length, Result, Ok, Err}
 use Rattle.chart_fields.specs.Limits.{header_size, most_objects}
 use Rattle.chart_fields.specs.Objects.{Holds}
 use Rattle.chart_opening.specs.Header.{layout_of}
+use Rattle.chart_opening.specs.declared.Refusal.{Refusal}
+use Rattle.skills.specs.declared.Skills.{Skills}
+use Rattle.skills_counts.specs.declared.ObjectCounts.{ObjectCounts}
+use Rattle.skills_stars.specs.declared.Ratings.{Ratings}
 use Rattle.calls.specs.Tables.{value_width, least_scratch}
 use Rattle.calls.specs.Afresh.{totals_are, counts_are, ratings_are}
 use Rattle.calls.specs.Conditions.{Scratch, Lengths}
 use Rattle.calls.specs.Calls.{Answer, refused, figure_is}
-use Rattle.calls_figures.specs.declared.TotalsAnswer.{TotalsAnswer}
-use Rattle.calls_figures.specs.declared.TotalsAnswer.TheVariants as OfTotals
-use Rattle.calls_figures.specs.declared.CountsAnswer.{CountsAnswer}
-use Rattle.calls_figures.specs.declared.CountsAnswer.TheVariants as OfCounts
-use Rattle.calls_figures.specs.declared.RatingsAnswer.{RatingsAnswer}
-use Rattle.calls_figures.specs.declared.RatingsAnswer.TheVariants as OfRatings
 
 -- a chart with a value table of v numbers and scratch of these lengths
 pub record Sums (b : List ℕ) (v : ℕ) (l : Lengths) : Type 0 where
@@ -33,14 +31,14 @@ pub record Counted (b : List ℕ) : Type 0 where
 abbrev pub scratch_of : List Float → List Float → List Float → List Float → Scratch
 scratch_of aim aim_no_sliders speed flashlight = record { aim = aim; aim_no_sliders = aim_no_sliders; speed = speed; flashlight = flashlight }
 
-abbrev pub totals_answer : TotalsAnswer → Answer
-totals_answer (OfTotals.Totals t) = figure_is (totals_are t)
-totals_answer (OfTotals.Refused r) = refused r
+abbrev pub totals_answer : Result Skills Refusal → Answer
+totals_answer (Ok t) = figure_is (totals_are t)
+totals_answer (Err r) = refused r
 
-abbrev pub counts_answer : CountsAnswer → Answer
-counts_answer (OfCounts.Counts c) = figure_is (counts_are c)
-counts_answer (OfCounts.Refused r) = refused r
+abbrev pub counts_answer : Result ObjectCounts Refusal → Answer
+counts_answer (Ok c) = figure_is (counts_are c)
+counts_answer (Err r) = refused r
 
-abbrev pub ratings_answer : RatingsAnswer → Answer
-ratings_answer (OfRatings.Ratings x) = figure_is (ratings_are x)
-ratings_answer (OfRatings.Refused r) = refused r
+abbrev pub ratings_answer : Result Ratings Refusal → Answer
+ratings_answer (Ok x) = figure_is (ratings_are x)
+ratings_answer (Err r) = refused r

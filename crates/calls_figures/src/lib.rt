@@ -20,47 +20,21 @@ ghost use Rattle.calls.specs.Calls.{state, outcome_with, verdict_in, outcome, cl
 ghost use Rattle.calls_players.specs.Second.{verdict_as, outcome_as, scratch_after_as};
 ghost use Rattle.calls_figures.specs.Answers.{Sums, Counted, scratch_of, totals_answer, counts_answer, ratings_answer};
 
-use chart_opening::{Refusal, Verdict};
+use chart_opening::Refusal;
 use skills::Skills;
 use skills_counts::ObjectCounts;
 use skills_stars::{Asked, Ratings};
 
-// The four totals, or why they are not worked out.
-#[derive(Clone, Copy)]
-pub enum TotalsAnswer {
-    Totals(Skills),
-    Refused(Refusal),
-}
-
-// The seven counts, or why they are not worked out.
-#[derive(Clone, Copy)]
-pub enum CountsAnswer {
-    Counts(ObjectCounts),
-    Refused(Refusal),
-}
-
-// The ratings and the stars, or why they are not worked out.
-#[derive(Clone, Copy)]
-pub enum RatingsAnswer {
-    Ratings(Ratings),
-    Refused(Refusal),
-}
-
 // Conditions 1 to 7 for the second player, over a value table of as many entries, where scratch is short or not.
-fn check_sums(chart: &[u8], settings: &[u8], entries: usize, short: bool) -> Verdict
+fn check_sums(chart: &[u8], settings: &[u8], entries: usize, short: bool) -> Result<(), Refusal>
     ensures { result ≡ second_verdict settings.now chart.now
         (sum_verdict (under settings.now chart.now) entries short) }
 {
-    match chart_players::check_as(chart, settings, entries) {
-        Verdict::Refused(r) => Verdict::Refused(r),
-        Verdict::Accepted => {
-            if short {
-                Verdict::Refused(Refusal::Table)
-            } else {
-                Verdict::Accepted
-            }
-        }
+    chart_players::check_as(chart, settings, entries)?;
+    if short {
+        return Err(Refusal::Table);
     }
+    Ok(())
 }
 
 // The same, by the lengths of the value table and of the scratch.
@@ -72,7 +46,7 @@ fn check_lent(
     aim_no_sliders: usize,
     speed: usize,
     flashlight: usize,
-) -> Verdict
+) -> Result<(), Refusal>
     ensures { result ≡ second_verdict settings.now chart.now
         (sum_verdict (under settings.now chart.now) (value_entries values)
         (scratch_short (record { aim = aim; aim_no_sliders = aim_no_sliders; speed = speed; flashlight = flashlight }))) }
@@ -120,7 +94,7 @@ pub fn totals_as(
     aim_no_sliders: &mut [f64],
     speed: &mut [f64],
     flashlight: &mut [f64],
-) -> TotalsAnswer
+) -> Result<Skills, Refusal>
     ensures answer { outcome_with (totals_answer result) chart.now [] values.now
         ≡ outcome_as settings.now (ops.figure kinds.totals
         (lengths (scratch_of aim.old aim_no_sliders.old speed.old flashlight.old)))
@@ -129,7 +103,7 @@ pub fn totals_as(
         ≡ scratch_after_as settings.now kinds.totals (state chart.now [] values.now)
         (scratch_of aim.old aim_no_sliders.old speed.old flashlight.old) }
 {
-    match check_lent(
+    check_lent(
         chart,
         settings,
         values.len(),
@@ -137,14 +111,10 @@ pub fn totals_as(
         aim_no_sliders.len(),
         speed.len(),
         flashlight.len(),
-    ) {
-        Verdict::Refused(r) => TotalsAnswer::Refused(r),
-        Verdict::Accepted => {
-            let clock = chart_opening::settings_at(settings, 0).clock_rate;
-            let t = totals_of(chart, clock, values, aim, aim_no_sliders, speed, flashlight);
-            TotalsAnswer::Totals(t)
-        }
-    }
+    )?;
+    let clock = chart_opening::settings_at(settings, 0).clock_rate;
+    let t = totals_of(chart, clock, values, aim, aim_no_sliders, speed, flashlight);
+    Ok(t)
 }
 
 // The four totals, over the values in the table.
@@ -155,7 +125,7 @@ pub fn totals(
     aim_no_sliders: &mut [f64],
     speed: &mut [f64],
     flashlight: &mut [f64],
-) -> TotalsAnswer
+) -> Result<Skills, Refusal>
     ensures answer { outcome_with (totals_answer result) chart.now [] values.now
         ≡ outcome (ops.figure kinds.totals
         (lengths (scratch_of aim.old aim_no_sliders.old speed.old flashlight.old)))
@@ -165,7 +135,7 @@ pub fn totals(
         (scratch_of aim.old aim_no_sliders.old speed.old flashlight.old) }
 {
     if chart.len() < chart_fields::HEADER_SIZE {
-        return TotalsAnswer::Refused(Refusal::Header);
+        return Err(Refusal::Header);
     }
     totals_as(
         chart,
@@ -225,7 +195,7 @@ pub fn counts_as(
     aim_no_sliders: &mut [f64],
     speed: &mut [f64],
     flashlight: &mut [f64],
-) -> CountsAnswer
+) -> Result<ObjectCounts, Refusal>
     ensures answer { outcome_with (counts_answer result) chart.now [] values.now
         ≡ outcome_as settings.now (ops.figure kinds.counts
         (lengths (scratch_of aim.old aim_no_sliders.old speed.old flashlight.old)))
@@ -234,7 +204,7 @@ pub fn counts_as(
         ≡ scratch_after_as settings.now kinds.counts (state chart.now [] values.now)
         (scratch_of aim.old aim_no_sliders.old speed.old flashlight.old) }
 {
-    match check_lent(
+    check_lent(
         chart,
         settings,
         values.len(),
@@ -242,14 +212,10 @@ pub fn counts_as(
         aim_no_sliders.len(),
         speed.len(),
         flashlight.len(),
-    ) {
-        Verdict::Refused(r) => CountsAnswer::Refused(r),
-        Verdict::Accepted => {
-            let clock = chart_opening::settings_at(settings, 0).clock_rate;
-            let c = counts_of(chart, clock, values, aim, aim_no_sliders, speed, flashlight);
-            CountsAnswer::Counts(c)
-        }
-    }
+    )?;
+    let clock = chart_opening::settings_at(settings, 0).clock_rate;
+    let c = counts_of(chart, clock, values, aim, aim_no_sliders, speed, flashlight);
+    Ok(c)
 }
 
 // How many objects carry the chart: the seven counts, over the values in the table.
@@ -260,7 +226,7 @@ pub fn counts(
     aim_no_sliders: &mut [f64],
     speed: &mut [f64],
     flashlight: &mut [f64],
-) -> CountsAnswer
+) -> Result<ObjectCounts, Refusal>
     ensures answer { outcome_with (counts_answer result) chart.now [] values.now
         ≡ outcome (ops.figure kinds.counts
         (lengths (scratch_of aim.old aim_no_sliders.old speed.old flashlight.old)))
@@ -270,7 +236,7 @@ pub fn counts(
         (scratch_of aim.old aim_no_sliders.old speed.old flashlight.old) }
 {
     if chart.len() < chart_fields::HEADER_SIZE {
-        return CountsAnswer::Refused(Refusal::Header);
+        return Err(Refusal::Header);
     }
     counts_as(
         chart,
@@ -326,7 +292,7 @@ pub fn totals_to_as(
     aim_no_sliders: &mut [f64],
     speed: &mut [f64],
     flashlight: &mut [f64],
-) -> TotalsAnswer
+) -> Result<Skills, Refusal>
     ensures answer { outcome_with (totals_answer result) chart.now [] values.now
         ≡ outcome_as settings.now (ops.figure (kinds.totals_to m)
         (lengths (scratch_of aim.old aim_no_sliders.old speed.old flashlight.old)))
@@ -335,7 +301,7 @@ pub fn totals_to_as(
         ≡ scratch_after_as settings.now (kinds.totals_to m) (state chart.now [] values.now)
         (scratch_of aim.old aim_no_sliders.old speed.old flashlight.old) }
 {
-    match check_lent(
+    check_lent(
         chart,
         settings,
         values.len(),
@@ -343,26 +309,22 @@ pub fn totals_to_as(
         aim_no_sliders.len(),
         speed.len(),
         flashlight.len(),
-    ) {
-        Verdict::Refused(r) => TotalsAnswer::Refused(r),
-        Verdict::Accepted => {
-            if count_of(chart) < m {
-                return TotalsAnswer::Refused(Refusal::Place);
-            }
-            let clock = chart_opening::settings_at(settings, 0).clock_rate;
-            let t = reached_of(
-                chart,
-                clock,
-                values,
-                m,
-                aim,
-                aim_no_sliders,
-                speed,
-                flashlight,
-            );
-            TotalsAnswer::Totals(t)
-        }
+    )?;
+    if count_of(chart) < m {
+        return Err(Refusal::Place);
     }
+    let clock = chart_opening::settings_at(settings, 0).clock_rate;
+    let t = reached_of(
+        chart,
+        clock,
+        values,
+        m,
+        aim,
+        aim_no_sliders,
+        speed,
+        flashlight,
+    );
+    Ok(t)
 }
 
 // The totals reached after the first m objects, over the values in the table.
@@ -374,7 +336,7 @@ pub fn totals_to(
     aim_no_sliders: &mut [f64],
     speed: &mut [f64],
     flashlight: &mut [f64],
-) -> TotalsAnswer
+) -> Result<Skills, Refusal>
     ensures answer { outcome_with (totals_answer result) chart.now [] values.now
         ≡ outcome (ops.figure (kinds.totals_to m)
         (lengths (scratch_of aim.old aim_no_sliders.old speed.old flashlight.old)))
@@ -384,7 +346,7 @@ pub fn totals_to(
         (scratch_of aim.old aim_no_sliders.old speed.old flashlight.old) }
 {
     if chart.len() < chart_fields::HEADER_SIZE {
-        return TotalsAnswer::Refused(Refusal::Header);
+        return Err(Refusal::Header);
     }
     totals_to_as(
         chart,
@@ -442,7 +404,7 @@ pub fn totals_while_playing_as(
     aim_no_sliders: &mut [f64],
     speed: &mut [f64],
     flashlight: &mut [f64],
-) -> Verdict
+) -> Result<(), Refusal>
     ensures answer { result ≡ verdict_as settings.now (ops.figure (kinds.playing (length list.old / totals_width))
         (lengths (scratch_of aim.old aim_no_sliders.old speed.old flashlight.old)))
         (state chart.now [] values.now) }
@@ -454,7 +416,7 @@ pub fn totals_while_playing_as(
         (state chart.now [] values.now)
         (scratch_of aim.old aim_no_sliders.old speed.old flashlight.old) }
 {
-    match check_lent(
+    check_lent(
         chart,
         settings,
         values.len(),
@@ -462,26 +424,22 @@ pub fn totals_while_playing_as(
         aim_no_sliders.len(),
         speed.len(),
         flashlight.len(),
-    ) {
-        Verdict::Refused(r) => Verdict::Refused(r),
-        Verdict::Accepted => {
-            if list.len() / calls::TOTALS_WIDTH < count_of(chart) + 1 {
-                return Verdict::Refused(Refusal::Table);
-            }
-            let clock = chart_opening::settings_at(settings, 0).clock_rate;
-            fill_list(
-                chart,
-                clock,
-                values,
-                list,
-                aim,
-                aim_no_sliders,
-                speed,
-                flashlight,
-            );
-            Verdict::Accepted
-        }
+    )?;
+    if list.len() / calls::TOTALS_WIDTH < count_of(chart) + 1 {
+        return Err(Refusal::Table);
     }
+    let clock = chart_opening::settings_at(settings, 0).clock_rate;
+    fill_list(
+        chart,
+        clock,
+        values,
+        list,
+        aim,
+        aim_no_sliders,
+        speed,
+        flashlight,
+    );
+    Ok(())
 }
 
 // The totals reached after every number of objects from 0 to N, each in its entry of the list, over the values in the table.
@@ -493,7 +451,7 @@ pub fn totals_while_playing(
     aim_no_sliders: &mut [f64],
     speed: &mut [f64],
     flashlight: &mut [f64],
-) -> Verdict
+) -> Result<(), Refusal>
     ensures answer { result ≡ verdict_in (ops.figure (kinds.playing (length list.old / totals_width))
         (lengths (scratch_of aim.old aim_no_sliders.old speed.old flashlight.old)))
         (state chart.now [] values.now) }
@@ -505,7 +463,7 @@ pub fn totals_while_playing(
         (scratch_of aim.old aim_no_sliders.old speed.old flashlight.old) }
 {
     if chart.len() < chart_fields::HEADER_SIZE {
-        return Verdict::Refused(Refusal::Header);
+        return Err(Refusal::Header);
     }
     totals_while_playing_as(
         chart,
@@ -537,7 +495,7 @@ pub fn ratings_as(
     aim_no_sliders: &mut [f64],
     speed: &mut [f64],
     flashlight: &mut [f64],
-) -> RatingsAnswer
+) -> Result<Ratings, Refusal>
     ensures answer { outcome_with (ratings_answer result) chart.now [] values.now
         ≡ outcome_as settings.now (ops.figure (kinds.ratings asked)
         (lengths (scratch_of aim.old aim_no_sliders.old speed.old flashlight.old)))
@@ -546,7 +504,7 @@ pub fn ratings_as(
         ≡ scratch_after_as settings.now (kinds.ratings asked) (state chart.now [] values.now)
         (scratch_of aim.old aim_no_sliders.old speed.old flashlight.old) }
 {
-    match check_lent(
+    check_lent(
         chart,
         settings,
         values.len(),
@@ -554,17 +512,13 @@ pub fn ratings_as(
         aim_no_sliders.len(),
         speed.len(),
         flashlight.len(),
-    ) {
-        Verdict::Refused(r) => RatingsAnswer::Refused(r),
-        Verdict::Accepted => {
-            if !asked.is_finite() {
-                return RatingsAnswer::Refused(Refusal::NotFinite);
-            }
-            let clock = chart_opening::settings_at(settings, 0).clock_rate;
-            let t = totals_of(chart, clock, values, aim, aim_no_sliders, speed, flashlight);
-            RatingsAnswer::Ratings(rate(chart, t, asked))
-        }
+    )?;
+    if !asked.is_finite() {
+        return Err(Refusal::NotFinite);
     }
+    let clock = chart_opening::settings_at(settings, 0).clock_rate;
+    let t = totals_of(chart, clock, values, aim, aim_no_sliders, speed, flashlight);
+    Ok(rate(chart, t, asked))
 }
 
 // The ratings and the stars under the mods and with the numbers that come with the call, over the values in the table.
@@ -576,7 +530,7 @@ pub fn ratings(
     aim_no_sliders: &mut [f64],
     speed: &mut [f64],
     flashlight: &mut [f64],
-) -> RatingsAnswer
+) -> Result<Ratings, Refusal>
     ensures answer { outcome_with (ratings_answer result) chart.now [] values.now
         ≡ outcome (ops.figure (kinds.ratings asked)
         (lengths (scratch_of aim.old aim_no_sliders.old speed.old flashlight.old)))
@@ -586,7 +540,7 @@ pub fn ratings(
         (scratch_of aim.old aim_no_sliders.old speed.old flashlight.old) }
 {
     if chart.len() < chart_fields::HEADER_SIZE {
-        return RatingsAnswer::Refused(Refusal::Header);
+        return Err(Refusal::Header);
     }
     ratings_as(
         chart,

@@ -1,12 +1,12 @@
 -- One call of two players on an opened chart: both players' tables stay fresh, and the answer is that of the plain chart under the settings of the player who asks.
 -- Each player's part is the one player's step. Assumes nothing.
+use Rattle.std.specs.Prelude.{Ok, Err}
 use Prim.Native.Nat.{ℕ}
 use mathlib.Core.Path.{◌≡◌, refl, sym, ap, ◌∙◌, subst}
 use mathlib.Core.List.{List}
 use lib.ListN.{length}
 use Rattle.chart_opening.specs.Conditions.{if_accepted}
-use Rattle.chart_opening.specs.declared.Verdict.{Verdict}
-use Rattle.chart_opening.specs.declared.Verdict.TheVariants.{Accepted, Refused}
+use Rattle.chart_opening.specs.Verdict.{Verdict}
 use Rattle.chart_players.specs.Second.{under, second_verdict, both_verdict}
 use Rattle.chart_players.specs.Commutes.{put_object_under, insert_object_under, remove_object_under}
 use Rattle.chart_players.proofs.Verdicts.{second_accepted, both_accepted}
@@ -21,18 +21,18 @@ use Rattle.calls_players.specs.Both.{second_of, Session, first, second, operatio
 use Rattle.calls_players.specs.Statement.{AdmissibleBoth}
 
 -- an edit of the second player's chart, where the first player's is accepted
-edited_under : (e : Edit) (t : List ℕ) (r v : ℕ) (b : List ℕ) → refusal (operation_of e) r v b ≡ Accepted
+edited_under : (e : Edit) (t : List ℕ) (r v : ℕ) (b : List ℕ) → refusal (operation_of e) r v b ≡ Ok tt
     → (compute (operation_of e) (under t b)).1 ≡ under t (compute (operation_of e) b).1
 unfolding compute
 edited_under (put k o) t r v b a = put_object_under t b k o (accepted_replace k o r v b a).0
 edited_under (put_before k o) t r v b a = insert_object_under t b k o (accepted_insert k o r v b a).0
 edited_under (take_out k) t r v b a = remove_object_under t b k (accepted_remove k r v b a).0
 
-plain_by : (q : Question) (b : List ℕ) → refusal q.operation q.records q.values b ≡ Accepted → plain q b ≡ compute q.operation b
+plain_by : (q : Question) (b : List ℕ) → refusal q.operation q.records q.values b ≡ Ok tt → plain q b ≡ compute q.operation b
 unfolding plain if_accepted
 plain_by q b e = ap (λ (v : Verdict). if_accepted v (compute q.operation b) (λ r. (refused r, b))) e
 
-asked_plain : (c : Call) (r v : ℕ) (b : List ℕ) → refusal c.operation (length_of c.records r) (length_of c.values v) b ≡ Accepted
+asked_plain : (c : Call) (r v : ℕ) (b : List ℕ) → refusal c.operation (length_of c.records r) (length_of c.values v) b ≡ Ok tt
     → plain (question r v c) b ≡ compute c.operation b
 unfolding question
 asked_plain c r v b e = plain_by (question r v c) b e
@@ -92,7 +92,7 @@ module _ (a₀ b₀ : State) where
     good_first c ok = record { answer = ap answered (step a₀ c (first s) i ok.1).answer; chart = refl; one = i; two = j }
 
     -- ---- one of the second player
-    second_answer : (c : Call) → OwnTables c.operation c.records c.values → verdict_in c.operation (lent c (second s)) ≡ Accepted
+    second_answer : (c : Call) → OwnTables c.operation c.records c.values → verdict_in c.operation (lent c (second s)) ≡ Ok tt
         → (execute c.operation (lent c (second s))).answer ≡ (compute c.operation (under s.settings b)).0
     unfolding seen Admissible
     second_answer c own e =
@@ -110,10 +110,10 @@ module _ (a₀ b₀ : State) where
       by_verdict : AdmissibleBoth s (of_second t c) → (v : Verdict) → second_verdict_of t c s ≡ v
           → if_accepted v theirs_answer (λ q. refused q) ≡ if_accepted v plain_answer (λ q. refused q)
       unfolding AdmissibleBoth if_accepted second_verdict_of
-      by_verdict ok Accepted e =
-          subst (λ (t : List ℕ). verdict_in c.operation (lent c (theirs t)) ≡ Accepted → (execute c.operation (lent c (theirs t))).answer ≡ (compute c.operation (under t b)).0)
+      by_verdict ok (Ok tt) e =
+          subst (λ (t : List ℕ). verdict_in c.operation (lent c (theirs t)) ≡ Ok tt → (execute c.operation (lent c (theirs t))).answer ≡ (compute c.operation (under t b)).0)
           (sym (ok.1 e).0) (second_answer c (ok.1 e).1) (second_accepted t b _ e).then
-      by_verdict ok (Refused q) e = refl
+      by_verdict ok (Err q) e = refl
 
       good_second : AdmissibleBoth s (of_second t c) → GoodBoth (perform_both (of_second t c) s) (plain_both (asked (of_second t c)) b)
       unfolding perform_both plain_both ask plain_second question
@@ -141,7 +141,7 @@ module _ (a₀ b₀ : State) where
       verdict_edit t = λ k. both_verdict (verdict_first mine k) (verdict_second t other k)
 
       -- carried out, under the settings of the opening
-      edit_carried : OwnTables (operation_of e) r v → OwnTables (operation_of e) r₂ v₂ → first_verdict mine s ≡ Accepted → verdict_in (operation_of e) (lent other (second s)) ≡ Accepted
+      edit_carried : OwnTables (operation_of e) r v → OwnTables (operation_of e) r₂ v₂ → first_verdict mine s ≡ Ok tt → verdict_in (operation_of e) (lent other (second s)) ≡ Ok tt
           → GoodBoth (answered (perform mine (first s)).0, edit_session s.settings mine other s) answer_edit
       unfolding edit_session seen Admissible
       edit_carried own own₂ f f₂ =
@@ -166,12 +166,12 @@ module _ (a₀ b₀ : State) where
           → GoodBoth (if_accepted w (answered (perform mine (first s)).0, edit_session t mine other s) (λ q. (answered (refused q), s)))
           (if_accepted w answer_edit (λ q. (answered (refused q), b)))
       unfolding AdmissibleBoth if_accepted edit_verdict second_verdict_of
-      edit_by t ok Accepted h =
+      edit_by t ok (Ok tt) h =
           let (q, own, own₂) = ok h in
           let (f, f₂) = both_accepted _ _ h in
-          subst (λ (t : List ℕ). verdict_in (operation_of e) (lent other (theirs t)) ≡ Accepted → GoodBoth (answered (perform mine (first s)).0, edit_session t mine other s) answer_edit)
+          subst (λ (t : List ℕ). verdict_in (operation_of e) (lent other (theirs t)) ≡ Ok tt → GoodBoth (answered (perform mine (first s)).0, edit_session t mine other s) answer_edit)
           (sym q) (edit_carried own own₂ f) (second_accepted t b _ f₂).then
-      edit_by t ok (Refused q) h = record { answer = refl; chart = refl; one = i; two = j }
+      edit_by t ok (Err q) h = record { answer = refl; chart = refl; one = i; two = j }
 
       good_edit : (t : List ℕ) → AdmissibleBoth s (edit e t r v r₂ v₂) → GoodBoth (perform_both (edit e t r v r₂ v₂) s) (plain_both (asked (edit e t r v r₂ v₂)) b)
       unfolding perform_both plain_both ask
@@ -185,7 +185,7 @@ module _ (a₀ b₀ : State) where
     good_open : GoodBoth (perform_both open_first s) (plain_both (asked open_first) b)
     unfolding perform_both plain_both ask open_session open_leaves if_accepted open_answer seen opened
     good_open =
-        let a : opening (length s.both.records) (length s.both.values) b ≡ Accepted = opening_none _ _ b i.opens i.roomy.records i.roomy.values in
+        let a : opening (length s.both.records) (length s.both.values) b ≡ (Ok tt) = opening_none _ _ b i.opens i.roomy.records i.roomy.values in
         let (o, m) = opening_met _ _ b a in
         let k : Inv (first s) (opened (first s)) = opened_inv (first s) o m in
         record {
@@ -200,16 +200,16 @@ module _ (a₀ b₀ : State) where
     open_as : (t : List ℕ) (w : Verdict) → open_answer_as t (second_of s.both) ≡ w
         → Inv b₀ (second (if_accepted w (open_session_as t (if_accepted w (opened_as t (second_of s.both)) (λ q. second_of s.both)) s) (λ q. s)))
     unfolding open_answer_as opened_as open_session_as if_accepted open_answer seen opened
-    open_as t Accepted e =
+    open_as t (Ok tt) e =
         let (o, m) = opening_met (length s.both.second_records) (length s.both.second_values) (under t b) (second_accepted t b _ e).then in
         relength b₀ (theirs t) (opened (theirs t)) lengths_second.0 lengths_second.1 (opened_inv (theirs t) o m)
-    open_as t (Refused q) e = j
+    open_as t (Err q) e = j
 
     open_others : (t : List ℕ) (w : Verdict) (y : State)
         → let s' = if_accepted w (open_session_as t y s) (λ q. s) in (s'.both.chart ≡ b) × Inv a₀ (first s')
     unfolding open_session_as if_accepted
-    open_others t Accepted y = (refl, i)
-    open_others t (Refused q) y = (refl, i)
+    open_others t (Ok tt) y = (refl, i)
+    open_others t (Err q) y = (refl, i)
 
     good_open_as : (t : List ℕ) → GoodBoth (perform_both (open_second t) s) (plain_both (asked (open_second t)) b)
     unfolding perform_both plain_both ask open_leaves_as open_answer_as open_answer seen

@@ -1,4 +1,5 @@
 -- The first player is a player whose settings are the header's; and what an edit for both answers and leaves. Assumes nothing.
+use Rattle.std.specs.Prelude.{Ok, Err}
 use Prim.Native.Nat.{ℕ, ◌≤◌, ◌<◌}
 use mathlib.Core.Path.{◌≡◌, refl, sym, ap, ◌∙◌}
 use mathlib.Core.Bool.{Bool, true, false, not}
@@ -12,8 +13,7 @@ use Rattle.chart_opening.specs.Header.{frame_ok, header_ok}
 use Rattle.chart_opening.specs.Conditions.{first_of, refuse_if, if_accepted, chart_conditions, open_conditions}
 use Rattle.chart_opening.specs.declared.Refusal.{Refusal}
 use Rattle.chart_opening.specs.declared.Refusal.TheVariants.{Header}
-use Rattle.chart_opening.specs.declared.Verdict.{Verdict}
-use Rattle.chart_opening.specs.declared.Verdict.TheVariants.{Accepted, Refused}
+use Rattle.chart_opening.specs.Verdict.{Verdict}
 use Rattle.chart_replacing.specs.Replace.{replace_conditions}
 use Rattle.chart_inserting.specs.Insert.{insert_conditions, remove_conditions}
 use Rattle.chart_players.specs.Second.{second_verdict}
@@ -30,14 +30,14 @@ use Rattle.calls_players.specs.Both as B
 
 -- ---- Condition 1 is each call's first
 
-header_refuses : (b : List ℕ) (vs : List Verdict) → header_ok b ≡ false → first_of (refuse_if (not (header_ok b)) Header ∷ vs) ≡ Refused Header
+header_refuses : (b : List ℕ) (vs : List Verdict) → header_ok b ≡ false → first_of (refuse_if (not (header_ok b)) Header ∷ vs) ≡ Err Header
 header_refuses b vs e = ap (λ (x : Bool). first_of (refuse_if (not x) Header ∷ vs)) e ∙ refused_first Header vs
 
-opening_header : (r v : ℕ) (b : List ℕ) → header_ok b ≡ false → opening r v b ≡ Refused Header
+opening_header : (r v : ℕ) (b : List ℕ) → header_ok b ≡ false → opening r v b ≡ Err Header
 unfolding open_conditions chart_conditions
 opening_header r v b e = header_refuses b _ e
 
-operation_header : (a : Operation) (r v : ℕ) (b : List ℕ) → header_ok b ≡ false → refusal a r v b ≡ Refused Header
+operation_header : (a : Operation) (r v : ℕ) (b : List ℕ) → header_ok b ≡ false → refusal a r v b ≡ Err Header
 unfolding refusal replace_conditions insert_conditions remove_conditions open_conditions chart_conditions read_conditions figure_conditions sum_conditions
 operation_header (replace k o) r v b e = header_refuses b _ e
 operation_header (insert k o) r v b e = header_refuses b _ e
@@ -52,10 +52,10 @@ header_short : (b : List ℕ) → length b < header_size → header_ok b ≡ fal
 unfolding header_ok frame_ok
 header_short b h = simp (lt-leb header_size (length b) h)
 
-pub opening_short : (r v : ℕ) (b : List ℕ) → length b < header_size → opening r v b ≡ Refused Header
+pub opening_short : (r v : ℕ) (b : List ℕ) → length b < header_size → opening r v b ≡ Err Header
 opening_short r v b h = opening_header r v b (header_short b h)
 
-pub verdict_short : (a : Operation) (st : State) → length st.chart < header_size → verdict_in a st ≡ Refused Header
+pub verdict_short : (a : Operation) (st : State) → length st.chart < header_size → verdict_in a st ≡ Err Header
 unfolding verdict_in
 verdict_short a st h = operation_header a _ _ st.chart (header_short st.chart h)
 
@@ -69,20 +69,20 @@ scratch_short_lem f st x h = ap (λ (v : Verdict). if_accepted v (cleared x) (λ
 -- ---- A reading or a figure of the second player, by the condition that it meets
 
 module _ (t : List ℕ) (a : Operation) (st : State) where
-  pub as_refused : (r : Refusal) → verdict_as t a st ≡ Refused r → outcome_as t a st ≡ refuse st r
+  pub as_refused : (r : Refusal) → verdict_as t a st ≡ Err r → outcome_as t a st ≡ refuse st r
   unfolding outcome_as if_accepted
   as_refused r e = ap (λ (v : Verdict). if_accepted v (record { answer = (execute a (seen t st)).answer; leaves = st }) (refuse st)) e
 
-  pub as_carried : verdict_as t a st ≡ Accepted → outcome_as t a st ≡ record { answer = (execute a (seen t st)).answer; leaves = st }
+  pub as_carried : verdict_as t a st ≡ Ok tt → outcome_as t a st ≡ record { answer = (execute a (seen t st)).answer; leaves = st }
   unfolding outcome_as if_accepted
   as_carried e = ap (λ (v : Verdict). if_accepted v (record { answer = (execute a (seen t st)).answer; leaves = st }) (refuse st)) e
 
 module _ (t : List ℕ) (f : Figure) (st : State) (x : Scratch) where
-  pub scratch_kept_as : (r : Refusal) → verdict_as t (figure f (lengths x)) st ≡ Refused r → scratch_after_as t f st x ≡ x
+  pub scratch_kept_as : (r : Refusal) → verdict_as t (figure f (lengths x)) st ≡ Err r → scratch_after_as t f st x ≡ x
   unfolding scratch_after_as if_accepted
   scratch_kept_as r e = ap (λ (v : Verdict). if_accepted v (cleared x) (λ r. x)) e
 
-  pub scratch_cleared_as : verdict_as t (figure f (lengths x)) st ≡ Accepted → scratch_after_as t f st x ≡ cleared x
+  pub scratch_cleared_as : verdict_as t (figure f (lengths x)) st ≡ Ok tt → scratch_after_as t f st x ≡ cleared x
   unfolding scratch_after_as if_accepted
   scratch_cleared_as e = ap (λ (v : Verdict). if_accepted v (cleared x) (λ r. x)) e
 
@@ -96,7 +96,7 @@ module _ (st : State) (h : header_size ≤ length st.chart) where
   unfolding seen
   seen_own = λ i. record { chart = under_own st.chart h i; records = st.records; values = st.values }
 
-  second_own : (v : Verdict) → (header_ok st.chart ≡ false → v ≡ Refused Header) → second_verdict mine st.chart v ≡ v
+  second_own : (v : Verdict) → (header_ok st.chart ≡ false → v ≡ Err Header) → second_verdict mine st.chart v ≡ v
   second_own v f = go (header_ok st.chart) refl
     where
       go : (x : Bool) → header_ok st.chart ≡ x → second_verdict mine st.chart v ≡ v
@@ -142,18 +142,18 @@ module _ (st : State) (h : header_size ≤ length st.chart) where
 -- ---- An edit for both
 
 module _ (t : List ℕ) (a : Operation) (p : Pair) where
-  pub first_refuses : (q : Refusal) → verdict_in a (B.first_of p) ≡ Refused q → both_answer t a p ≡ Refused q
+  pub first_refuses : (q : Refusal) → verdict_in a (B.first_of p) ≡ Err q → both_answer t a p ≡ Err q
   unfolding both_answer
   first_refuses q e = both_first _ _ q e
 
-  pub second_refuses : verdict_in a (B.first_of p) ≡ Accepted → both_answer t a p ≡ verdict_as t a (B.second_of p)
+  pub second_refuses : verdict_in a (B.first_of p) ≡ Ok tt → both_answer t a p ≡ verdict_as t a (B.second_of p)
   unfolding both_answer
   second_refuses e = both_second _ _ e
 
-  pub both_kept : (q : Refusal) → both_answer t a p ≡ Refused q → both_leaves t a p ≡ p
+  pub both_kept : (q : Refusal) → both_answer t a p ≡ Err q → both_leaves t a p ≡ p
   unfolding both_leaves if_accepted
   both_kept q e = ap (λ (v : Verdict). if_accepted v (edited_both t a p) (λ r. p)) e
 
-  pub both_left : both_answer t a p ≡ Accepted → both_leaves t a p ≡ edited_both t a p
+  pub both_left : both_answer t a p ≡ Ok tt → both_leaves t a p ≡ edited_both t a p
   unfolding both_leaves if_accepted
   both_left e = ap (λ (v : Verdict). if_accepted v (edited_both t a p) (λ r. p)) e

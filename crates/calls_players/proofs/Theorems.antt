@@ -1,11 +1,11 @@
 -- Two players over one chart: every claim of `Statement`. Assumes nothing.
+use Rattle.std.specs.Prelude.{Ok, Err}
 use Prim.Native.Nat.{ℕ}
 use mathlib.Core.Path.{◌≡◌, refl, subst}
 use mathlib.Core.List.{List}
 use lib.ListN.{length}
 use Rattle.chart_opening.specs.Conditions.{if_accepted}
-use Rattle.chart_opening.specs.declared.Verdict.{Verdict}
-use Rattle.chart_opening.specs.declared.Verdict.TheVariants.{Accepted, Refused}
+use Rattle.chart_opening.specs.Verdict.{Verdict}
 use Rattle.chart_players.specs.Second.{under}
 use Rattle.chart_players.proofs.Verdicts.{second_accepted, both_accepted}
 use Rattle.calls.specs.Simulation.{answers, after, Throughout}
@@ -40,7 +40,7 @@ module _ (t : List ℕ) (p₀ : Pair) where
       × (((perform_both m s).1.both.chart ≡ (plain_both (asks m) x).1) × Inv (first_of p₀) (first (perform_both m s).1) × Inv (second_of p₀) (second (perform_both m s).1)))
       c (g.answer, (g.chart, g.one, g.two))
 
-  module _ (e : open_answer (first_of p₀) ≡ Accepted) (e₂ : open_answer_as t (second_of p₀) ≡ Accepted) where
+  module _ (e : open_answer (first_of p₀) ≡ Ok tt) (e₂ : open_answer_as t (second_of p₀) ≡ Ok tt) where
     start : FollowsBoth (opened_both t p₀) p₀.chart
     unfolding FollowsBoth opened_both opened_as open_answer open_answer_as seen opened
     start =
@@ -65,7 +65,7 @@ module _ (t : List ℕ) (p₀ : Pair) where
 
 -- an edit on both players' own tables that is carried out
 module _ (e : Edit) (t : List ℕ) (s : Session) where
-  left_accepted : both_answer t (operation_of e) s.both ≡ Accepted → (edit_session t (call_of e own own) (call_of e own own) s).both ≡ edited_both t (operation_of e) s.both
+  left_accepted : both_answer t (operation_of e) s.both ≡ Ok tt → (edit_session t (call_of e own own) (call_of e own own) s).both ≡ edited_both t (operation_of e) s.both
   unfolding both_answer verdict_as edit_session edited_both lent state_after contents table_after seen
   left_accepted h =
       let (f, f₂) = both_accepted _ _ h in
@@ -77,13 +77,13 @@ module _ (e : Edit) (t : List ℕ) (s : Session) where
       → (if_accepted {X = Reply × Session} v (answered (perform (call_of e own own) (first s)).0, edit_session t (call_of e own own) (call_of e own own) s) (λ q. (answered (refused q), s))).1.both
       ≡ if_accepted v (edited_both t (operation_of e) s.both) (λ q. s.both)
   unfolding if_accepted
-  left_by Accepted h = left_accepted h
-  left_by (Refused q) h = refl
+  left_by (Ok tt) h = left_accepted h
+  left_by (Err q) h = refl
 
 first_kept : (t : List ℕ) (s : Session) (y : State) (v : Verdict) → first (if_accepted v (open_session_as t y s) (λ q. s)) ≡ first s
 unfolding if_accepted open_session_as
-first_kept t s y Accepted = refl
-first_kept t s y (Refused q) = refl
+first_kept t s y (Ok tt) = refl
+first_kept t s y (Err q) = refl
 
 steps : (e : Edit) (t : List ℕ) (s : Session) → (perform_both (edit e t own own own own) s).1.both ≡ both_leaves t (operation_of e) s.both
 unfolding perform_both both_leaves edit_verdict first_verdict second_verdict_of both_answer verdict_as lent contents

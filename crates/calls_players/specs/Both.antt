@@ -2,7 +2,7 @@
 -- Definitions only.
 use Rattle.std.specs.Prelude.{ℕ, List, Float}
 use Rattle.chart_opening.specs.Conditions.{if_accepted}
-use Rattle.chart_opening.specs.declared.Verdict.{Verdict}
+use Rattle.chart_opening.specs.Verdict.{Verdict}
 use Rattle.chart_players.specs.Second.{under, second_verdict, both_verdict}
 use Rattle.calls.specs.Tables.{Borrowed, length_of}
 use Rattle.calls.specs.Conditions.{Operation, replace, insert, remove, opening, refusal}

@@ -2,7 +2,7 @@
 -- (`under`, crate chart_players); none writes to the chart. Definitions only.
 use Rattle.std.specs.Prelude.{ℕ, List}
 use Rattle.chart_opening.specs.Conditions.{if_accepted}
-use Rattle.chart_opening.specs.declared.Verdict.{Verdict}
+use Rattle.chart_opening.specs.Verdict.{Verdict}
 use Rattle.chart_players.specs.Second.{under, second_verdict}
 use Rattle.calls.specs.Afresh.{Figure}
 use Rattle.calls.specs.Conditions.{Scratch, lengths, Operation, figure}

@@ -1,4 +1,5 @@
 -- A reading of the second player, by the condition that it meets: refused or carried out, it changes nothing. Assumes nothing.
+use Rattle.std.specs.Prelude.{Ok, Err}
 use Prim.Native.Nat.{ℕ}
 use mathlib.Core.Path.{◌≡◌, refl, ap, ◌∙◌}
 use mathlib.Core.List.{List, []}
@@ -10,7 +11,6 @@ use Rattle.osu_records.specs.Rows.{record_at}
 use Rattle.chart_opening.specs.Header.{settings_at}
 use Rattle.chart_opening.specs.declared.Settings.{Settings}
 use Rattle.chart_opening.specs.declared.Refusal.{Refusal}
-use Rattle.chart_opening.specs.declared.Verdict.TheVariants.{Accepted, Refused}
 use Rattle.chart_players.specs.Second.{under, second_verdict}
 use Rattle.chart_players.specs.Under.{framed_under}
 use Rattle.chart_players.proofs.Verdicts.{Passed, second_accepted, settings_are}
@@ -25,36 +25,36 @@ use Rattle.calls_players.proofs.Own.{as_refused, as_carried}
 use Rattle.calls_readings.specs.Answers.{InTable}
 
 module _ (s b : List ℕ) (t : List Float) (k : ℕ) where
-  pub record_refused : (r : Refusal) → second_verdict s b (read_verdict (under s b) (record_entries (length t)) k) ≡ Refused r
+  pub record_refused : (r : Refusal) → second_verdict s b (read_verdict (under s b) (record_entries (length t)) k) ≡ Err r
       → outcome_as s (read_record k) (state b t []) ≡ outcome_with (refused r) b t []
   unfolding verdict_as verdict_in refusal refuse seen
   record_refused r e = as_refused s (read_record k) (state b t []) r e
 
-  pub record_read : second_verdict s b (read_verdict (under s b) (record_entries (length t)) k) ≡ Accepted
+  pub record_read : second_verdict s b (read_verdict (under s b) (record_entries (length t)) k) ≡ Ok tt
       → outcome_as s (read_record k) (state b t []) ≡ outcome_with (record_is (record_at t k)) b t []
   unfolding verdict_as verdict_in refusal execute seen
   record_read e = as_carried s (read_record k) (state b t []) e
 
-  pub values_refused : (r : Refusal) → second_verdict s b (read_verdict (under s b) (value_entries (length t)) k) ≡ Refused r
+  pub values_refused : (r : Refusal) → second_verdict s b (read_verdict (under s b) (value_entries (length t)) k) ≡ Err r
       → outcome_as s (read_values k) (state b [] t) ≡ outcome_with (refused r) b [] t
   unfolding verdict_as verdict_in refusal refuse seen
   values_refused r e = as_refused s (read_values k) (state b [] t) r e
 
-  pub values_read : second_verdict s b (read_verdict (under s b) (value_entries (length t)) k) ≡ Accepted
+  pub values_read : second_verdict s b (read_verdict (under s b) (value_entries (length t)) k) ≡ Ok tt
       → outcome_as s (read_values k) (state b [] t) ≡ outcome_with (values_are (row value_width t k)) b [] t
   unfolding verdict_as verdict_in refusal execute seen
   values_read e = as_carried s (read_values k) (state b [] t) e
 
-  pub detail_refused : (d : Detail) (r : Refusal) → second_verdict s b (read_verdict (under s b) (record_entries (length t)) k) ≡ Refused r
+  pub detail_refused : (d : Detail) (r : Refusal) → second_verdict s b (read_verdict (under s b) (record_entries (length t)) k) ≡ Err r
       → outcome_as s (read_detail d k) (state b t []) ≡ outcome_with (refused r) b t []
   unfolding verdict_as verdict_in refusal refuse seen
   detail_refused d r e = as_refused s (read_detail d k) (state b t []) r e
 
   -- what a reading that is carried out may count on
-  pub passed : (entries : ℕ) → second_verdict s b (read_verdict (under s b) entries k) ≡ Accepted → Passed s b (read_verdict (under s b) entries k)
+  pub passed : (entries : ℕ) → second_verdict s b (read_verdict (under s b) entries k) ≡ Ok tt → Passed s b (read_verdict (under s b) entries k)
   passed entries e = second_accepted s b (read_verdict (under s b) entries k) e
 
-  pub in_table : second_verdict s b (read_verdict (under s b) (record_entries (length t)) k) ≡ Accepted → InTable b (length t) k
+  pub in_table : second_verdict s b (read_verdict (under s b) (record_entries (length t)) k) ≡ Ok tt → InTable b (length t) k
   in_table e =
       let p = passed (record_entries (length t)) e in
       let r = accepted_read (under s b) (record_entries (length t)) k p.then in
@@ -65,7 +65,7 @@ module _ (s b : List ℕ) (t : List Float) (k : ℕ) where
         below = omega (arith, r.below, count_under s b);
       }
 
-  pub detail_read : (d : Detail) → second_verdict s b (read_verdict (under s b) (record_entries (length t)) k) ≡ Accepted
+  pub detail_read : (d : Detail) → second_verdict s b (read_verdict (under s b) (record_entries (length t)) k) ≡ Ok tt
       → outcome_as s (read_detail d k) (state b t []) ≡ outcome_with (detail_is (detail_from d (settings_at s 0) b t k)) b t []
   unfolding verdict_as verdict_in refusal execute seen
   detail_read d e =

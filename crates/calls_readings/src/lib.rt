@@ -17,25 +17,11 @@ ghost use Rattle.calls.specs.Calls.{state, outcome_with, outcome};
 ghost use Rattle.calls_players.specs.Second.{outcome_as};
 ghost use Rattle.calls_readings.specs.Answers.{InTable, record_answer, values_answer, aim_finding, aim_answer, rhythm_finding, rhythm_answer};
 
-use chart_opening::{Refusal, Settings, Verdict};
+use chart_opening::{Refusal, Settings};
 use eval_aim::AimParts;
 use eval_rhythm::Counted;
 use eval_values::Values;
 use osu_difficulty_object::OsuDifficultyObject;
-
-// A record of the table, or why it is not read.
-#[derive(Clone, Copy)]
-pub enum RecordAnswer {
-    Record(OsuDifficultyObject),
-    Refused(Refusal),
-}
-
-// The five values of a place, or why they are not read.
-#[derive(Clone, Copy)]
-pub enum ValuesAnswer {
-    Values(Values),
-    Refused(Refusal),
-}
 
 // Aim's value at a place and what it is made of, and both without sliders.
 #[derive(Clone, Copy)]
@@ -46,41 +32,27 @@ pub struct AimDetail {
     pub parts_no_sliders: AimParts,
 }
 
-// Aim in its parts, or why it is not read.
-#[derive(Clone, Copy)]
-pub enum AimAnswer {
-    Aim(AimDetail),
-    Refused(Refusal),
-}
-
-// The rhythm value of a place with its comparisons, or why it is not read.
-#[derive(Clone, Copy)]
-pub enum RhythmAnswer {
-    Rhythm(Counted),
-    Refused(Refusal),
-}
-
 // Conditions 7 and 8 of a reading, for a chart of n objects and a table of as many numbers, so many an entry.
-fn check_place(n: usize, numbers: usize, width: usize, place: usize) -> Verdict
+fn check_place(n: usize, numbers: usize, width: usize, place: usize) -> Result<(), Refusal>
     requires { (n ≤ most_objects) × (0 < width) × (width ≤ record_width) }
     ensures { result ≡ first_of (row_conditions n (numbers / width) place) }
 {
     if numbers < width * n {
-        return Verdict::Refused(Refusal::Table);
+        return Err(Refusal::Table);
     }
     if (0 < place) & (place < n) {
-        return Verdict::Accepted;
+        return Ok(());
     }
-    Verdict::Refused(Refusal::Place)
+    Err(Refusal::Place)
 }
 
 // Conditions 1, 7 and 8 of a reading.
-fn check_reading(chart: &[u8], numbers: usize, width: usize, place: usize) -> Verdict
+fn check_reading(chart: &[u8], numbers: usize, width: usize, place: usize) -> Result<(), Refusal>
     requires { (0 < width) × (width ≤ record_width) }
     ensures { result ≡ read_verdict chart.now (numbers / width) place }
 {
     if !chart_opening::header_ok(chart) {
-        return Verdict::Refused(Refusal::Header);
+        return Err(Refusal::Header);
     }
     check_place(chart_opening::layout_of(chart).n, numbers, width, place)
 }
@@ -92,62 +64,54 @@ fn check_reading_as(
     numbers: usize,
     width: usize,
     place: usize,
-) -> Verdict
+) -> Result<(), Refusal>
     requires { (0 < width) × (width ≤ record_width) }
     ensures { result ≡ second_verdict settings.now chart.now
         (read_verdict (under settings.now chart.now) (numbers / width) place) }
 {
     if !chart_players::header_ok_as(chart, settings) {
-        return Verdict::Refused(Refusal::Header);
+        return Err(Refusal::Header);
     }
     if settings.len() != chart_players::SETTINGS_SIZE {
-        return Verdict::Refused(Refusal::Setting);
+        return Err(Refusal::Setting);
     }
     check_place(chart_opening::layout_of(chart).n, numbers, width, place)
 }
 
 // The record of a place, as the table has it.
-pub fn read_record(chart: &[u8], records: &[f64], place: usize) -> RecordAnswer
+pub fn read_record(chart: &[u8], records: &[f64], place: usize) -> Result<OsuDifficultyObject, Refusal>
     ensures { outcome_with (record_answer result) chart.now records.now []
         ≡ outcome (ops.read_record place) (state chart.now records.now []) }
 {
-    match check_reading(chart, records.len(), calls::RECORD_WIDTH, place) {
-        Verdict::Refused(r) => RecordAnswer::Refused(r),
-        Verdict::Accepted => RecordAnswer::Record(osu_records::record_at(records, place)),
-    }
+    check_reading(chart, records.len(), calls::RECORD_WIDTH, place)?;
+    Ok(osu_records::record_at(records, place))
 }
 
 // The record of a place, as the table has it, for the second player.
-pub fn read_record_as(chart: &[u8], settings: &[u8], records: &[f64], place: usize) -> RecordAnswer
+pub fn read_record_as(chart: &[u8], settings: &[u8], records: &[f64], place: usize) -> Result<OsuDifficultyObject, Refusal>
     ensures { outcome_with (record_answer result) chart.now records.now []
         ≡ outcome_as settings.now (ops.read_record place) (state chart.now records.now []) }
 {
-    match check_reading_as(chart, settings, records.len(), calls::RECORD_WIDTH, place) {
-        Verdict::Refused(r) => RecordAnswer::Refused(r),
-        Verdict::Accepted => RecordAnswer::Record(osu_records::record_at(records, place)),
-    }
+    check_reading_as(chart, settings, records.len(), calls::RECORD_WIDTH, place)?;
+    Ok(osu_records::record_at(records, place))
 }
 
 // The values of a place, as the table has them.
-pub fn read_values(chart: &[u8], values: &[f64], place: usize) -> ValuesAnswer
+pub fn read_values(chart: &[u8], values: &[f64], place: usize) -> Result<Values, Refusal>
     ensures { outcome_with (values_answer result) chart.now [] values.now
         ≡ outcome (ops.read_values place) (state chart.now [] values.now) }
 {
-    match check_reading(chart, values.len(), calls::VALUE_WIDTH, place) {
-        Verdict::Refused(r) => ValuesAnswer::Refused(r),
-        Verdict::Accepted => ValuesAnswer::Values(eval_values::row_at(values, place)),
-    }
+    check_reading(chart, values.len(), calls::VALUE_WIDTH, place)?;
+    Ok(eval_values::row_at(values, place))
 }
 
 // The values of a place, as the table has them, for the second player.
-pub fn read_values_as(chart: &[u8], settings: &[u8], values: &[f64], place: usize) -> ValuesAnswer
+pub fn read_values_as(chart: &[u8], settings: &[u8], values: &[f64], place: usize) -> Result<Values, Refusal>
     ensures { outcome_with (values_answer result) chart.now [] values.now
         ≡ outcome_as settings.now (ops.read_values place) (state chart.now [] values.now) }
 {
-    match check_reading_as(chart, settings, values.len(), calls::VALUE_WIDTH, place) {
-        Verdict::Refused(r) => ValuesAnswer::Refused(r),
-        Verdict::Accepted => ValuesAnswer::Values(eval_values::row_at(values, place)),
-    }
+    check_reading_as(chart, settings, values.len(), calls::VALUE_WIDTH, place)?;
+    Ok(eval_values::row_at(values, place))
 }
 
 // Aim at a place from 1 to n - 1, from the records of the table; no setting plays a part.
@@ -167,25 +131,21 @@ fn aim_at(chart: &[u8], records: &[f64], place: usize) -> AimDetail
 }
 
 // Aim's value at a place with its parts, from the records of the table.
-pub fn read_aim_parts(chart: &[u8], records: &[f64], place: usize) -> AimAnswer
+pub fn read_aim_parts(chart: &[u8], records: &[f64], place: usize) -> Result<AimDetail, Refusal>
     ensures { outcome_with (aim_answer result) chart.now records.now []
         ≡ outcome (ops.read_detail details.aim_parts place) (state chart.now records.now []) }
 {
-    match check_reading(chart, records.len(), calls::RECORD_WIDTH, place) {
-        Verdict::Refused(r) => AimAnswer::Refused(r),
-        Verdict::Accepted => AimAnswer::Aim(aim_at(chart, records, place)),
-    }
+    check_reading(chart, records.len(), calls::RECORD_WIDTH, place)?;
+    Ok(aim_at(chart, records, place))
 }
 
 // Aim's value at a place with its parts, from the records of the table, for the second player.
-pub fn read_aim_parts_as(chart: &[u8], settings: &[u8], records: &[f64], place: usize) -> AimAnswer
+pub fn read_aim_parts_as(chart: &[u8], settings: &[u8], records: &[f64], place: usize) -> Result<AimDetail, Refusal>
     ensures { outcome_with (aim_answer result) chart.now records.now []
         ≡ outcome_as settings.now (ops.read_detail details.aim_parts place) (state chart.now records.now []) }
 {
-    match check_reading_as(chart, settings, records.len(), calls::RECORD_WIDTH, place) {
-        Verdict::Refused(r) => AimAnswer::Refused(r),
-        Verdict::Accepted => AimAnswer::Aim(aim_at(chart, records, place)),
-    }
+    check_reading_as(chart, settings, records.len(), calls::RECORD_WIDTH, place)?;
+    Ok(aim_at(chart, records, place))
 }
 
 // The rhythm value at a place from 1 to n - 1 and its comparisons, from the records of the table.
@@ -198,29 +158,21 @@ fn rhythm_at(chart: &[u8], set: Settings, records: &[f64], place: usize) -> Coun
 }
 
 // The rhythm value of a place, and how often an island was compared with a kept one for it, from the records of the table.
-pub fn read_rhythm(chart: &[u8], records: &[f64], place: usize) -> RhythmAnswer
+pub fn read_rhythm(chart: &[u8], records: &[f64], place: usize) -> Result<Counted, Refusal>
     ensures { outcome_with (rhythm_answer result) chart.now records.now []
         ≡ outcome (ops.read_detail details.rhythm place) (state chart.now records.now []) }
 {
-    match check_reading(chart, records.len(), calls::RECORD_WIDTH, place) {
-        Verdict::Refused(r) => RhythmAnswer::Refused(r),
-        Verdict::Accepted => {
-            let set = chart_opening::settings_at(chart, calls::SETTINGS_AT);
-            RhythmAnswer::Rhythm(rhythm_at(chart, set, records, place))
-        }
-    }
+    check_reading(chart, records.len(), calls::RECORD_WIDTH, place)?;
+    let set = chart_opening::settings_at(chart, calls::SETTINGS_AT);
+    Ok(rhythm_at(chart, set, records, place))
 }
 
 // The rhythm value of a place, and how often an island was compared with a kept one for it, from the records of the table, for the second player.
-pub fn read_rhythm_as(chart: &[u8], settings: &[u8], records: &[f64], place: usize) -> RhythmAnswer
+pub fn read_rhythm_as(chart: &[u8], settings: &[u8], records: &[f64], place: usize) -> Result<Counted, Refusal>
     ensures { outcome_with (rhythm_answer result) chart.now records.now []
         ≡ outcome_as settings.now (ops.read_detail details.rhythm place) (state chart.now records.now []) }
 {
-    match check_reading_as(chart, settings, records.len(), calls::RECORD_WIDTH, place) {
-        Verdict::Refused(r) => RhythmAnswer::Refused(r),
-        Verdict::Accepted => {
-            let set = chart_opening::settings_at(settings, 0);
-            RhythmAnswer::Rhythm(rhythm_at(chart, set, records, place))
-        }
-    }
+    check_reading_as(chart, settings, records.len(), calls::RECORD_WIDTH, place)?;
+    let set = chart_opening::settings_at(settings, 0);
+    Ok(rhythm_at(chart, set, records, place))
 }

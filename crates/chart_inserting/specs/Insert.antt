@@ -7,7 +7,7 @@ use Rattle.chart_fields.specs.declared.Layout.{Layout}
 use Rattle.chart_opening.specs.Header.{layout_of, chart_length}
 use Rattle.chart_opening.specs.Conditions.{refuse_if, first_of, body_of, chart_conditions, too_few, open_conditions}
 use Rattle.chart_opening.specs.declared.Refusal.TheVariants.{Object, Place, Room}
-use Rattle.chart_opening.specs.declared.Verdict.{Verdict}
+use Rattle.chart_opening.specs.Verdict.{Verdict}
 
 -- ---- The bytes
 

@@ -7,7 +7,7 @@ use Rattle.chart_fields.specs.declared.Layout.{Layout}
 use Rattle.chart_opening.specs.Header.{far_apart}
 use Rattle.chart_opening.specs.Conditions.{refuse_if}
 use Rattle.chart_opening.specs.declared.Refusal.TheVariants.{Order, Length}
-use Rattle.chart_opening.specs.declared.Verdict.{Verdict}
+use Rattle.chart_opening.specs.Verdict.{Verdict}
 use Rattle.chart_replacing.specs.Local.{falls_here, object_conditions}
 
 -- ---- Insertion of an object of these fields at a place

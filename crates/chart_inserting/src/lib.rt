@@ -12,7 +12,7 @@ ghost use Rattle.chart_inserting.specs.Insert.{insert_place_conditions, insert_v
 ghost use Rattle.chart_inserting.specs.Accepted.{Inserted, Removed};
 
 use chart_fields::{Fields, Layout};
-use chart_opening::{Refusal, Verdict};
+use chart_opening::Refusal;
 
 // Writes a word, little-endian.
 fn put_word(chart: &mut [u8], at: usize, x: usize)
@@ -76,19 +76,19 @@ pub fn long_with(chart: &[u8], lay: Layout, clock: f64, place: usize, f: Fields)
 }
 
 // Conditions 8 and 9, then 3 to 6 for the chart as it would become; the chart as it is meets none of 1 to 6.
-fn check_insert_at(chart: &[u8], place: usize, object: &[u8]) -> Verdict
+fn check_insert_at(chart: &[u8], place: usize, object: &[u8]) -> Result<(), Refusal>
     requires { Opens chart.now }
     ensures { result ≡ first_of (insert_place_conditions chart.now place object.now) }
 {
     let lay = chart_opening::layout_of(chart);
     if lay.n < place {
-        return Verdict::Refused(Refusal::Place);
+        return Err(Refusal::Place);
     }
     if no_room(chart, lay) {
-        return Verdict::Refused(Refusal::Room);
+        return Err(Refusal::Room);
     }
     if object.len() != lay.object_size {
-        return Verdict::Refused(Refusal::Object(place));
+        return Err(Refusal::Object(place));
     }
     let settings = chart_opening::settings_at(chart, 32);
     let f = chart_fields::fields_at(object, 0, lay.object_size);
@@ -97,20 +97,20 @@ fn check_insert_at(chart: &[u8], place: usize, object: &[u8]) -> Verdict
 }
 
 // All conditions of an insertion in their order; entries is the number of entries of the shortest table.
-pub fn check_insert(chart: &[u8], place: usize, object: &[u8], entries: usize) -> Verdict
+pub fn check_insert(
+    chart: &[u8],
+    place: usize,
+    object: &[u8],
+    entries: usize,
+) -> Result<(), Refusal>
     ensures { result ≡ insert_verdict chart.now place object.now entries }
 {
-    match chart_opening::check(chart, entries) {
-        Verdict::Refused(r) => Verdict::Refused(r),
-        Verdict::Accepted => {
-            let lay = chart_opening::layout_of(chart);
-            if entries < lay.n + 1 {
-                Verdict::Refused(Refusal::Table)
-            } else {
-                check_insert_at(chart, place, object)
-            }
-        }
+    chart_opening::check(chart, entries)?;
+    let lay = chart_opening::layout_of(chart);
+    if entries < lay.n + 1 {
+        return Err(Refusal::Table);
     }
+    check_insert_at(chart, place, object)
 }
 
 // Puts an accepted object in.
@@ -128,17 +128,13 @@ pub fn put_in(chart: &mut [u8], place: usize, object: &[u8])
 }
 
 // Puts an object in at a place, or refuses and leaves the buffer as it was.
-pub fn insert(chart: &mut [u8], place: usize, object: &[u8], entries: usize) -> Verdict
+pub fn insert(chart: &mut [u8], place: usize, object: &[u8], entries: usize) -> Result<(), Refusal>
     ensures answer { result ≡ insert_verdict chart.old place object.now entries }
     ensures chart { chart.new ≡ if_accepted result (insert_object place object.now chart.old) (λ _. chart.old) }
 {
-    match check_insert(chart, place, object, entries) {
-        Verdict::Refused(r) => Verdict::Refused(r),
-        Verdict::Accepted => {
-            put_in(chart, place, object);
-            Verdict::Accepted
-        }
-    }
+    check_insert(chart, place, object, entries)?;
+    put_in(chart, place, object);
+    Ok(())
 }
 
 // ---- Removal
@@ -182,40 +178,38 @@ pub fn long_without(chart: &[u8], lay: Layout, clock: f64, place: usize) -> bool
 }
 
 // Conditions 3 to 6 of that chart: only what the removal can have changed is tested.
-fn check_without(chart: &[u8], lay: Layout, clock: f64, place: usize) -> Verdict
+fn check_without(chart: &[u8], lay: Layout, clock: f64, place: usize) -> Result<(), Refusal>
     requires { Holds chart.now lay × (place < lay.n) }
     ensures { result ≡ first_of (remove_local chart.now lay clock place) }
 {
     if falls_without(chart, lay, place) {
-        return Verdict::Refused(Refusal::Order(place));
+        return Err(Refusal::Order(place));
     }
     if long_without(chart, lay, clock, place) {
-        return Verdict::Refused(Refusal::Length);
+        return Err(Refusal::Length);
     }
-    Verdict::Accepted
+    Ok(())
 }
 
 // Condition 8, then 3 to 6 for the chart as it would become; the chart as it is meets none of 1 to 6.
-fn check_remove_at(chart: &[u8], place: usize) -> Verdict
+fn check_remove_at(chart: &[u8], place: usize) -> Result<(), Refusal>
     requires { Opens chart.now }
     ensures { result ≡ first_of (remove_place_conditions chart.now place) }
 {
     let lay = chart_opening::layout_of(chart);
     if lay.n <= place {
-        return Verdict::Refused(Refusal::Place);
+        return Err(Refusal::Place);
     }
     let settings = chart_opening::settings_at(chart, 32);
     check_without(chart, lay, settings.clock_rate, place)
 }
 
 // All conditions of a removal in their order; entries is the number of entries of the shortest table.
-pub fn check_remove(chart: &[u8], place: usize, entries: usize) -> Verdict
+pub fn check_remove(chart: &[u8], place: usize, entries: usize) -> Result<(), Refusal>
     ensures { result ≡ remove_verdict chart.now place entries }
 {
-    match chart_opening::check(chart, entries) {
-        Verdict::Refused(r) => Verdict::Refused(r),
-        Verdict::Accepted => check_remove_at(chart, place),
-    }
+    chart_opening::check(chart, entries)?;
+    check_remove_at(chart, place)
 }
 
 // Takes the object at an accepted place out.
@@ -233,15 +227,11 @@ pub fn take_out(chart: &mut [u8], place: usize)
 }
 
 // Takes the object at a place out, or refuses and leaves the buffer as it was.
-pub fn remove(chart: &mut [u8], place: usize, entries: usize) -> Verdict
+pub fn remove(chart: &mut [u8], place: usize, entries: usize) -> Result<(), Refusal>
     ensures answer { result ≡ remove_verdict chart.old place entries }
     ensures chart { chart.new ≡ if_accepted result (remove_object place chart.old) (λ _. chart.old) }
 {
-    match check_remove(chart, place, entries) {
-        Verdict::Refused(r) => Verdict::Refused(r),
-        Verdict::Accepted => {
-            take_out(chart, place);
-            Verdict::Accepted
-        }
-    }
+    check_remove(chart, place, entries)?;
+    take_out(chart, place);
+    Ok(())
 }

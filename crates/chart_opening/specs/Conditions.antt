@@ -1,5 +1,5 @@
 -- Document 01, "What each call answers": the conditions that a call tries, in their order, each with its number and place. Definitions only.
-use Rattle.std.specs.Prelude.{ℕ, ◌≡◌, Bool, cond, not, ◌||◌, List, [], ◌∷◌, ◌++◌, ltb, Float}
+use Rattle.std.specs.Prelude.{ℕ, ◌≡◌, Bool, cond, not, ◌||◌, List, [], ◌∷◌, ◌++◌, ltb, Float, Ok, Err}
 use Rattle.chart_fields.specs.Search.{first_below}
 use Rattle.chart_fields.specs.Objects.{bad_fields, falls}
 use Rattle.chart_fields.specs.declared.Layout.{Layout}
@@ -8,8 +8,7 @@ use Rattle.chart_opening.specs.Header.{layout_of, header_ok, settings_of, settin
 use Rattle.chart_opening.specs.declared.Settings.{Settings}
 use Rattle.chart_opening.specs.declared.Refusal.{Refusal}
 use Rattle.chart_opening.specs.declared.Refusal.TheVariants.{Header, Setting, Object, Entries, Order, Length, Table, Place, Room, NotFinite}
-use Rattle.chart_opening.specs.declared.Verdict.{Verdict}
-use Rattle.chart_opening.specs.declared.Verdict.TheVariants.{Accepted, Refused}
+use Rattle.chart_opening.specs.Verdict.{Verdict}
 
 -- the number of a refusal in the list of conditions
 abbrev pub refusal_number : Refusal → ℕ
@@ -41,7 +40,7 @@ refusal_place NotFinite = 0
 
 -- a condition that is met where a test holds
 abbrev pub refuse_if : Bool → Refusal → Verdict
-refuse_if test r = cond test (Refused r) Accepted
+refuse_if test r = cond test (Err r) (Ok tt)
 
 -- a condition that is met at the lowest of places 0 to n - 1 at which a test holds
 abbrev pub refuse_at : (ℕ → Refusal) → (ℕ → Bool) → ℕ → Verdict
@@ -49,14 +48,14 @@ refuse_at r bad n = refuse_if (ltb (first_below bad n) n) (r (first_below bad n)
 
 -- "In this order": the first condition of a list that is met; "A call that meets no condition of its list is carried out"
 unfoldable pub first_of : List Verdict → Verdict
-first_of [] = Accepted
-first_of (Accepted ∷ vs) = first_of vs
-first_of (Refused r ∷ vs) = Refused r
+first_of [] = Ok tt
+first_of ((Ok tt) ∷ vs) = first_of vs
+first_of (Err r ∷ vs) = Err r
 
 -- x where a call is carried out, and what is made of the refusal where it is not
 unfoldable pub if_accepted {ℓ} : {X : Type ℓ} → Verdict → X → (Refusal → X) → X
-if_accepted Accepted x f = x
-if_accepted (Refused r) x f = f r
+if_accepted (Ok tt) x f = x
+if_accepted (Err r) x f = f r
 
 -- ---- The chart
 
@@ -83,7 +82,7 @@ chart_conditions s = refuse_if (not (header_ok s)) Header ∷ refuse_if (not (se
 
 -- the chart meets none of them
 abbrev pub Opens : List ℕ → Type 0
-Opens s = first_of (chart_conditions s) ≡ Accepted
+Opens s = first_of (chart_conditions s) ≡ Ok tt
 
 -- ---- Opening
 

@@ -1,5 +1,6 @@
 pub mod Limits
 pub mod Header
+pub mod Verdict
 pub mod Conditions
 pub mod Same
 pub mod Accepted

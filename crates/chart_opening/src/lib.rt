@@ -26,7 +26,7 @@ pub struct Settings {
 }
 
 // Why a call is refused: the ten conditions, with the offending place where they have one.
-#[derive(Clone, Copy)]
+#[derive(Clone, Copy, Debug, PartialEq, Eq)]
 pub enum Refusal {
     Header,
     Setting,
@@ -38,13 +38,6 @@ pub enum Refusal {
     Place,
     Room,
     NotFinite,
-}
-
-// What a call that can be refused answers.
-#[derive(Clone, Copy)]
-pub enum Verdict {
-    Accepted,
-    Refused(Refusal),
 }
 
 impl Refusal {
@@ -245,31 +238,31 @@ fn first_fault(chart: &[u8], lay: Layout) -> usize
 }
 
 // Conditions 3 to 6, each over the whole chart before the next.
-fn check_in_turn(chart: &[u8], lay: Layout, clock: f64) -> Verdict
+fn check_in_turn(chart: &[u8], lay: Layout, clock: f64) -> Result<(), Refusal>
     requires { Holds chart.now lay }
     ensures { result ≡ first_of (body_conditions chart.now lay clock) }
 {
     let n = lay.n;
     let object = chart_fields::first_bad_fields(chart, lay);
     if object < n {
-        return Verdict::Refused(Refusal::Object(object));
+        return Err(Refusal::Object(object));
     }
     let entries = chart_entries::first_bad_entries(chart, lay);
     if entries < n {
-        return Verdict::Refused(Refusal::Entries(entries));
+        return Err(Refusal::Entries(entries));
     }
     let order = chart_fields::first_fall(chart, lay);
     if order < n {
-        return Verdict::Refused(Refusal::Order(order));
+        return Err(Refusal::Order(order));
     }
     if too_long(chart, lay, clock) {
-        return Verdict::Refused(Refusal::Length);
+        return Err(Refusal::Length);
     }
-    Verdict::Accepted
+    Ok(())
 }
 
 // Conditions 3 to 6. A chart without a fault is gone over once; where there is one, the conditions' order names it.
-pub fn check_body(chart: &[u8], lay: Layout, clock: f64) -> Verdict
+pub fn check_body(chart: &[u8], lay: Layout, clock: f64) -> Result<(), Refusal>
     requires { Holds chart.now lay }
     ensures { result ≡ first_of (body_conditions chart.now lay clock) }
 {
@@ -277,38 +270,33 @@ pub fn check_body(chart: &[u8], lay: Layout, clock: f64) -> Verdict
         return check_in_turn(chart, lay, clock);
     }
     if too_long(chart, lay, clock) {
-        return Verdict::Refused(Refusal::Length);
+        return Err(Refusal::Length);
     }
-    Verdict::Accepted
+    Ok(())
 }
 
 // Conditions 2 to 7 under given settings, of a chart whose header is right; entries is the number of entries of the shortest table.
-pub fn check_under(chart: &[u8], set: Settings, entries: usize) -> Verdict
+pub fn check_under(chart: &[u8], set: Settings, entries: usize) -> Result<(), Refusal>
     requires { (header_size ≤ length chart.now) × Holds chart.now (layout_of chart.now) }
     ensures { result ≡ first_of (under_conditions chart.now set entries) }
 {
     let lay = layout_of(chart);
     if !settings_ok(set) {
-        return Verdict::Refused(Refusal::Setting);
+        return Err(Refusal::Setting);
     }
-    match check_body(chart, lay, set.clock_rate) {
-        Verdict::Refused(r) => Verdict::Refused(r),
-        Verdict::Accepted => {
-            if entries < lay.n {
-                Verdict::Refused(Refusal::Table)
-            } else {
-                Verdict::Accepted
-            }
-        }
+    check_body(chart, lay, set.clock_rate)?;
+    if entries < lay.n {
+        return Err(Refusal::Table);
     }
+    Ok(())
 }
 
 // Conditions 1 to 7.
-pub fn check(chart: &[u8], entries: usize) -> Verdict
+pub fn check(chart: &[u8], entries: usize) -> Result<(), Refusal>
     ensures { result ≡ open_verdict chart.now entries }
 {
     if !header_ok(chart) {
-        return Verdict::Refused(Refusal::Header);
+        return Err(Refusal::Header);
     }
     check_under(chart, settings_at(chart, 32), entries)
 }

@@ -1,7 +1,7 @@
 -- What the second player's conditions come to: where the first player's chart meets none of 1 to 6, only the flags, the settings, the length in time and the tables
 -- are left; and where the first player's edit is accepted, of the chart as it would become only its length in time. Assumes nothing.
 use Prim.Native.Nat.{ℕ, ◌+◌, ◌≤◌}
-use Rattle.std.specs.Prelude.{◌≡◌, refl, Bool, true, false, not, ◌||◌, eqb, Float, length}
+use Rattle.std.specs.Prelude.{◌≡◌, refl, Bool, true, false, not, ◌||◌, eqb, Float, length, Ok, Err}
 use Rattle.std.proofs.Math.Path.{sym, ap}
 use Rattle.std.proofs.Common.{◌∙◌, le-leb, lt-ltb, eq-eqb, eqb-true}
 use mathlib.Core.List.{List, [], ◌∷◌, ◌++◌}
@@ -17,8 +17,7 @@ use Rattle.chart_opening.specs.Accepted.{refuses, head_accepts, tail_accepts, he
 use Rattle.chart_opening.specs.declared.Settings.{Settings}
 use Rattle.chart_opening.specs.declared.Refusal.{Refusal}
 use Rattle.chart_opening.specs.declared.Refusal.TheVariants.{Header, Setting, Object, Entries, Order, Length, Place, Room}
-use Rattle.chart_opening.specs.declared.Verdict.{Verdict}
-use Rattle.chart_opening.specs.declared.Verdict.TheVariants.{Accepted, Refused}
+use Rattle.chart_opening.specs.Verdict.{Verdict}
 use Rattle.chart_opening.proofs.Header.{parts, holds}
 use Rattle.chart_opening.proofs.Body.{last}
 use Rattle.chart_replacing.specs.Replace.{put_object, place_conditions, replace_conditions, replace_verdict}
@@ -43,19 +42,19 @@ use Rattle.chart_players.specs.Verdicts.{tried}
 pub first_append : (us vs : List Verdict) → first_of (us ++ vs) ≡ first_of (first_of us ∷ vs)
 unfolding first_of
 first_append [] vs = refl
-first_append (Accepted ∷ us) vs = first_append us vs
-first_append (Refused r ∷ us) vs = refl
+first_append ((Ok tt) ∷ us) vs = first_append us vs
+first_append (Err r ∷ us) vs = refl
 
-pub refused_first : (r : Refusal) (vs : List Verdict) → first_of (Refused r ∷ vs) ≡ Refused r
+pub refused_first : (r : Refusal) (vs : List Verdict) → first_of (Err r ∷ vs) ≡ Err r
 unfolding first_of
 refused_first r vs = refl
 
-pub accepted_first : (vs : List Verdict) → first_of (Accepted ∷ vs) ≡ first_of vs
+pub accepted_first : (vs : List Verdict) → first_of ((Ok tt) ∷ vs) ≡ first_of vs
 unfolding first_of
 accepted_first vs = refl
 
 -- conditions 3 to 6 at another clock rate
-pub body_other : (s : List ℕ) (lay : Layout) (clock other : Float) → first_of (body_conditions s lay clock) ≡ Accepted
+pub body_other : (s : List ℕ) (lay : Layout) (clock other : Float) → first_of (body_conditions s lay clock) ≡ Ok tt
     → first_of (body_conditions s lay other) ≡ refuse_if (too_long s lay other) Length
 unfolding body_conditions
 body_other s lay clock other e =
@@ -73,11 +72,11 @@ passes x r vs e = ap (λ (y : Bool). first_of (refuse_if (not y) r ∷ vs)) e �
 -- ---- The flags and the length of the settings
 
 module _ (t b : List ℕ) (v : Verdict) where
-  pub second_header : header_ok (under t b) ≡ false → second_verdict t b v ≡ Refused Header
+  pub second_header : header_ok (under t b) ≡ false → second_verdict t b v ≡ Err Header
   unfolding second_verdict size_conditions first_of
   second_header h = simp h
 
-  pub second_size : header_ok (under t b) ≡ true → is_settings t ≡ false → second_verdict t b v ≡ Refused Setting
+  pub second_size : header_ok (under t b) ≡ true → is_settings t ≡ false → second_verdict t b v ≡ Err Setting
   unfolding second_verdict size_conditions first_of
   second_size h i = simp (h, i)
 
@@ -97,9 +96,9 @@ second_then t b v vs = go (header_ok (under t b)) (is_settings t) refl refl
 pub record Passed (t b : List ℕ) (v : Verdict) : Type 0 where
   pub header : header_ok (under t b) ≡ true
   pub size : length t ≡ settings_size
-  pub then : v ≡ Accepted
+  pub then : v ≡ Ok tt
 
-pub second_accepted : (t b : List ℕ) (v : Verdict) → second_verdict t b v ≡ Accepted → Passed t b v
+pub second_accepted : (t b : List ℕ) (v : Verdict) → second_verdict t b v ≡ Ok tt → Passed t b v
 second_accepted t b v e = go (header_ok (under t b)) (is_settings t) refl refl
   where
     go : (x y : Bool) → header_ok (under t b) ≡ x → is_settings t ≡ y → Passed t b v
@@ -110,17 +109,17 @@ second_accepted t b v e = go (header_ok (under t b)) (is_settings t) refl refl
 -- ---- Two players
 
 module _ (v w : Verdict) where
-  pub both_first : (r : Refusal) → v ≡ Refused r → both_verdict v w ≡ Refused r
+  pub both_first : (r : Refusal) → v ≡ Err r → both_verdict v w ≡ Err r
   unfolding both_verdict
   both_first r e = ap (λ (x : Verdict). first_of (x ∷ w ∷ [])) e ∙ refused_first r (w ∷ [])
 
-  pub both_second : v ≡ Accepted → both_verdict v w ≡ w
+  pub both_second : v ≡ Ok tt → both_verdict v w ≡ w
   unfolding both_verdict
   both_second e = ap (λ (x : Verdict). first_of (x ∷ w ∷ [])) e ∙ (accepted_first (w ∷ []) ∙ last w)
 
-  pub both_accepted : both_verdict v w ≡ Accepted → (v ≡ Accepted) × (w ≡ Accepted)
+  pub both_accepted : both_verdict v w ≡ Ok tt → (v ≡ Ok tt) × (w ≡ Ok tt)
   unfolding both_verdict
-  both_accepted e = let f : v ≡ Accepted = head_accepts v (w ∷ []) e in (f, sym (both_second f) ∙ e)
+  both_accepted e = let f : v ≡ (Ok tt) = head_accepts v (w ∷ []) e in (f, sym (both_second f) ∙ e)
 
 -- ---- A chart whose header is right for the second player
 
@@ -255,11 +254,11 @@ module _ (t b : List ℕ) (entries : ℕ) where
     again : x ≡ second_verdict t b (tried t b entries n)
     again = k ∙ ap (λ (z : ℕ). second_verdict t b (tried t b entries z)) q
 
-    pub edit_refused : {r : Refusal} → x ≡ Refused r → Refused r ≡ second_verdict t b v
+    pub edit_refused : {r : Refusal} → x ≡ Err r → Err r ≡ second_verdict t b v
     edit_refused {r} f = sym (e ∙ (ap (λ (z : Verdict). first_of (z ∷ cs)) (sym again ∙ f) ∙ refused_first r cs))
 
-    pub edit_passed : x ≡ Accepted → {w : Verdict} → first_of cs ≡ w → w ≡ second_verdict t b v
+    pub edit_passed : x ≡ Ok tt → {w : Verdict} → first_of cs ≡ w → w ≡ second_verdict t b v
     edit_passed f g = sym (e ∙ (ap (λ (z : Verdict). first_of (z ∷ cs)) (sym again ∙ f) ∙ (accepted_first cs ∙ g)))
 
-    pub edit_settings : x ≡ Accepted → (header_ok (under t b) ≡ true) × (length t ≡ settings_size)
+    pub edit_settings : x ≡ Ok tt → (header_ok (under t b) ≡ true) × (length t ≡ settings_size)
     edit_settings f = let p = second_accepted t b (tried t b entries n) (sym again ∙ f) in (p.header, p.size)

@@ -7,7 +7,7 @@ use Rattle.chart_opening.specs.Limits.{settings_start, settings_size}
 use Rattle.chart_opening.specs.Header.{header_ok}
 use Rattle.chart_opening.specs.Conditions.{refuse_if, first_of}
 use Rattle.chart_opening.specs.declared.Refusal.TheVariants.{Header, Setting}
-use Rattle.chart_opening.specs.declared.Verdict.{Verdict}
+use Rattle.chart_opening.specs.Verdict.{Verdict}
 
 abbrev pub is_settings : List ℕ → Bool
 is_settings t = eqb (length t) settings_size

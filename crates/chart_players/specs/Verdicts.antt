@@ -2,7 +2,7 @@
 use Prim.Native.Nat.{ℕ}
 use mathlib.Core.List.{List, [], ◌∷◌, ◌++◌}
 use Rattle.chart_opening.specs.Conditions.{first_of, chart_conditions, too_few}
-use Rattle.chart_opening.specs.declared.Verdict.{Verdict}
+use Rattle.chart_opening.specs.Verdict.{Verdict}
 use Rattle.chart_players.specs.Second.{under}
 
 module _ (t b : List ℕ) (entries : ℕ) where

@@ -13,7 +13,7 @@ ghost use Rattle.chart_inserting.specs.Accepted.{Inserted, Removed};
 ghost use Rattle.chart_players.specs.Second.{under, second_verdict, both_verdict};
 ghost use Rattle.chart_players.specs.Verdicts.{tried};
 
-use chart_opening::{Refusal, Verdict};
+use chart_opening::Refusal;
 
 // Bytes of a player's settings.
 pub const SETTINGS_SIZE: usize = 48;
@@ -32,52 +32,52 @@ pub fn header_ok_as(chart: &[u8], settings: &[u8]) -> bool
 }
 
 // Conditions 1 to 7 for the second player; entries is the number of entries of that player's shortest table.
-pub fn check_as(chart: &[u8], settings: &[u8], entries: usize) -> Verdict
+pub fn check_as(chart: &[u8], settings: &[u8], entries: usize) -> Result<(), Refusal>
     ensures { result ≡ second_verdict settings.now chart.now
         (open_verdict (under settings.now chart.now) entries) }
 {
     if !header_ok_as(chart, settings) {
-        return Verdict::Refused(Refusal::Header);
+        return Err(Refusal::Header);
     }
     if settings.len() != SETTINGS_SIZE {
-        return Verdict::Refused(Refusal::Setting);
+        return Err(Refusal::Setting);
     }
     chart_opening::check_under(chart, chart_opening::settings_at(settings, 0), entries)
 }
 
 // The same for a chart that meets none of 1 to 6 for the first player, with least entries asked of the tables: what lies in the objects is not tried again.
-fn check_other(chart: &[u8], settings: &[u8], least: usize, entries: usize) -> Verdict
+fn check_other(chart: &[u8], settings: &[u8], least: usize, entries: usize) -> Result<(), Refusal>
     requires { Opens chart.now }
     ensures { result ≡ second_verdict settings.now chart.now (tried settings.now chart.now entries least) }
 {
     if !header_ok_as(chart, settings) {
-        return Verdict::Refused(Refusal::Header);
+        return Err(Refusal::Header);
     }
     if settings.len() != SETTINGS_SIZE {
-        return Verdict::Refused(Refusal::Setting);
+        return Err(Refusal::Setting);
     }
     let set = chart_opening::settings_at(settings, 0);
     if !chart_opening::settings_ok(set) {
-        return Verdict::Refused(Refusal::Setting);
+        return Err(Refusal::Setting);
     }
     let lay = chart_opening::layout_of(chart);
     if chart_opening::too_long(chart, lay, set.clock_rate) {
-        return Verdict::Refused(Refusal::Length);
+        return Err(Refusal::Length);
     }
     if entries < least {
-        return Verdict::Refused(Refusal::Table);
+        return Err(Refusal::Table);
     }
-    Verdict::Accepted
+    Ok(())
 }
 
 // Condition 6 of the chart as it would become.
-fn length_verdict(long: bool) -> Verdict
+fn length_verdict(long: bool) -> Result<(), Refusal>
     ensures { result ≡ refuse_if long Length }
 {
     if long {
-        return Verdict::Refused(Refusal::Length);
+        return Err(Refusal::Length);
     }
-    Verdict::Accepted
+    Ok(())
 }
 
 // All conditions of a replacement for the second player, where the first player's is accepted.
@@ -87,20 +87,16 @@ fn check_replace_as(
     place: usize,
     object: &[u8],
     entries: usize,
-) -> Verdict
+) -> Result<(), Refusal>
     requires { Taken chart.now place object.now }
     ensures { result ≡ second_verdict settings.now chart.now
         (replace_verdict (under settings.now chart.now) place object.now entries) }
 {
     let lay = chart_opening::layout_of(chart);
-    match check_other(chart, settings, lay.n, entries) {
-        Verdict::Refused(r) => Verdict::Refused(r),
-        Verdict::Accepted => {
-            let set = chart_opening::settings_at(settings, 0);
-            let f = chart_fields::fields_at(object, 0, lay.object_size);
-            length_verdict(chart_replacing::new_too_long(chart, lay, set.clock_rate, place, f))
-        }
-    }
+    check_other(chart, settings, lay.n, entries)?;
+    let set = chart_opening::settings_at(settings, 0);
+    let f = chart_fields::fields_at(object, 0, lay.object_size);
+    length_verdict(chart_replacing::new_too_long(chart, lay, set.clock_rate, place, f))
 }
 
 // The answer of a replacement for both players.
@@ -111,15 +107,13 @@ fn check_replace_both(
     object: &[u8],
     entries: usize,
     second_entries: usize,
-) -> Verdict
+) -> Result<(), Refusal>
     ensures { result ≡ both_verdict (replace_verdict chart.now place object.now entries)
         (second_verdict settings.now chart.now
         (replace_verdict (under settings.now chart.now) place object.now second_entries)) }
 {
-    match chart_replacing::check_replace(chart, place, object, entries) {
-        Verdict::Refused(r) => Verdict::Refused(r),
-        Verdict::Accepted => check_replace_as(chart, settings, place, object, second_entries),
-    }
+    chart_replacing::check_replace(chart, place, object, entries)?;
+    check_replace_as(chart, settings, place, object, second_entries)
 }
 
 // Replaces the object at a place for both players, or refuses and leaves the chart as it was.
@@ -130,19 +124,15 @@ pub fn replace_both(
     object: &[u8],
     entries: usize,
     second_entries: usize,
-) -> Verdict
+) -> Result<(), Refusal>
     ensures answer { result ≡ both_verdict (replace_verdict chart.old place object.now entries)
         (second_verdict settings.now chart.old
         (replace_verdict (under settings.now chart.old) place object.now second_entries)) }
     ensures chart { chart.new ≡ if_accepted result (put_object place object.now chart.old) (λ _. chart.old) }
 {
-    match check_replace_both(chart, settings, place, object, entries, second_entries) {
-        Verdict::Refused(r) => Verdict::Refused(r),
-        Verdict::Accepted => {
-            chart_replacing::put_object(chart, place, object);
-            Verdict::Accepted
-        }
-    }
+    check_replace_both(chart, settings, place, object, entries, second_entries)?;
+    chart_replacing::put_object(chart, place, object);
+    Ok(())
 }
 
 // All conditions of an insertion for the second player, where the first player's is accepted.
@@ -152,20 +142,16 @@ fn check_insert_as(
     place: usize,
     object: &[u8],
     entries: usize,
-) -> Verdict
+) -> Result<(), Refusal>
     requires { Inserted chart.now place object.now }
     ensures { result ≡ second_verdict settings.now chart.now
         (insert_verdict (under settings.now chart.now) place object.now entries) }
 {
     let lay = chart_opening::layout_of(chart);
-    match check_other(chart, settings, lay.n + 1, entries) {
-        Verdict::Refused(r) => Verdict::Refused(r),
-        Verdict::Accepted => {
-            let set = chart_opening::settings_at(settings, 0);
-            let f = chart_fields::fields_at(object, 0, lay.object_size);
-            length_verdict(chart_inserting::long_with(chart, lay, set.clock_rate, place, f))
-        }
-    }
+    check_other(chart, settings, lay.n + 1, entries)?;
+    let set = chart_opening::settings_at(settings, 0);
+    let f = chart_fields::fields_at(object, 0, lay.object_size);
+    length_verdict(chart_inserting::long_with(chart, lay, set.clock_rate, place, f))
 }
 
 // The answer of an insertion for both players.
@@ -176,15 +162,13 @@ fn check_insert_both(
     object: &[u8],
     entries: usize,
     second_entries: usize,
-) -> Verdict
+) -> Result<(), Refusal>
     ensures { result ≡ both_verdict (insert_verdict chart.now place object.now entries)
         (second_verdict settings.now chart.now
         (insert_verdict (under settings.now chart.now) place object.now second_entries)) }
 {
-    match chart_inserting::check_insert(chart, place, object, entries) {
-        Verdict::Refused(r) => Verdict::Refused(r),
-        Verdict::Accepted => check_insert_as(chart, settings, place, object, second_entries),
-    }
+    chart_inserting::check_insert(chart, place, object, entries)?;
+    check_insert_as(chart, settings, place, object, second_entries)
 }
 
 // Puts an object in at a place for both players, or refuses and leaves the buffer as it was.
@@ -195,35 +179,32 @@ pub fn insert_both(
     object: &[u8],
     entries: usize,
     second_entries: usize,
-) -> Verdict
+) -> Result<(), Refusal>
     ensures answer { result ≡ both_verdict (insert_verdict chart.old place object.now entries)
         (second_verdict settings.now chart.old
         (insert_verdict (under settings.now chart.old) place object.now second_entries)) }
     ensures chart { chart.new ≡ if_accepted result (insert_object place object.now chart.old) (λ _. chart.old) }
 {
-    match check_insert_both(chart, settings, place, object, entries, second_entries) {
-        Verdict::Refused(r) => Verdict::Refused(r),
-        Verdict::Accepted => {
-            chart_inserting::put_in(chart, place, object);
-            Verdict::Accepted
-        }
-    }
+    check_insert_both(chart, settings, place, object, entries, second_entries)?;
+    chart_inserting::put_in(chart, place, object);
+    Ok(())
 }
 
 // All conditions of a removal for the second player, where the first player's is accepted.
-fn check_remove_as(chart: &[u8], settings: &[u8], place: usize, entries: usize) -> Verdict
+fn check_remove_as(
+    chart: &[u8],
+    settings: &[u8],
+    place: usize,
+    entries: usize,
+) -> Result<(), Refusal>
     requires { Removed chart.now place }
     ensures { result ≡ second_verdict settings.now chart.now
         (remove_verdict (under settings.now chart.now) place entries) }
 {
     let lay = chart_opening::layout_of(chart);
-    match check_other(chart, settings, lay.n, entries) {
-        Verdict::Refused(r) => Verdict::Refused(r),
-        Verdict::Accepted => {
-            let set = chart_opening::settings_at(settings, 0);
-            length_verdict(chart_inserting::long_without(chart, lay, set.clock_rate, place))
-        }
-    }
+    check_other(chart, settings, lay.n, entries)?;
+    let set = chart_opening::settings_at(settings, 0);
+    length_verdict(chart_inserting::long_without(chart, lay, set.clock_rate, place))
 }
 
 // The answer of a removal for both players.
@@ -233,15 +214,13 @@ fn check_remove_both(
     place: usize,
     entries: usize,
     second_entries: usize,
-) -> Verdict
+) -> Result<(), Refusal>
     ensures { result ≡ both_verdict (remove_verdict chart.now place entries)
         (second_verdict settings.now chart.now
         (remove_verdict (under settings.now chart.now) place second_entries)) }
 {
-    match chart_inserting::check_remove(chart, place, entries) {
-        Verdict::Refused(r) => Verdict::Refused(r),
-        Verdict::Accepted => check_remove_as(chart, settings, place, second_entries),
-    }
+    chart_inserting::check_remove(chart, place, entries)?;
+    check_remove_as(chart, settings, place, second_entries)
 }
 
 // Takes the object at a place out for both players, or refuses and leaves the buffer as it was.
@@ -251,17 +230,13 @@ pub fn remove_both(
     place: usize,
     entries: usize,
     second_entries: usize,
-) -> Verdict
+) -> Result<(), Refusal>
     ensures answer { result ≡ both_verdict (remove_verdict chart.old place entries)
         (second_verdict settings.now chart.old
         (remove_verdict (under settings.now chart.old) place second_entries)) }
     ensures chart { chart.new ≡ if_accepted result (remove_object place chart.old) (λ _. chart.old) }
 {
-    match check_remove_both(chart, settings, place, entries, second_entries) {
-        Verdict::Refused(r) => Verdict::Refused(r),
-        Verdict::Accepted => {
-            chart_inserting::take_out(chart, place);
-            Verdict::Accepted
-        }
-    }
+    check_remove_both(chart, settings, place, entries, second_entries)?;
+    chart_inserting::take_out(chart, place);
+    Ok(())
 }

@@ -1,5 +1,5 @@
 -- What an accepted replacement tells: of its arguments, and that the new chart opens as the old one did (`taken`). Assumes nothing.
-use Rattle.std.specs.Prelude.{ℕ, ◌≤◌, ◌<◌, ◌≡◌, List, ltb, eqb, length}
+use Rattle.std.specs.Prelude.{ℕ, ◌≤◌, ◌<◌, ◌≡◌, List, ltb, eqb, length, Ok}
 use Rattle.std.proofs.Common.{◌∙◌}
 use borrow.Author.Tests.{ltb-true, eqb-true}
 use Rattle.chart_opening.proofs.Header.{holds}
@@ -7,21 +7,20 @@ use Rattle.chart_opening.specs.Accepted.{opens, enough, opens_by, is_met, head_a
 use Rattle.chart_opening.specs.Header.{layout_of}
 use Rattle.chart_opening.specs.Conditions.{first_of, body_of, open_conditions, open_verdict}
 use Rattle.chart_opening.specs.declared.Refusal.TheVariants.{Object, Place}
-use Rattle.chart_opening.specs.declared.Verdict.TheVariants.{Accepted}
 use Rattle.chart_replacing.specs.Replace.{put_object, place_conditions, replace_conditions, replace_verdict}
 use Rattle.chart_replacing.specs.Replaced as R
 use Rattle.chart_replacing.specs.Accepted.{Taken}
 
-module _ (s : List ℕ) (place : ℕ) (object : List ℕ) (entries : ℕ) (e : replace_verdict s place object entries ≡ Accepted) where
-  first : open_verdict s entries ≡ Accepted
+module _ (s : List ℕ) (place : ℕ) (object : List ℕ) (entries : ℕ) (e : replace_verdict s place object entries ≡ Ok tt) where
+  first : open_verdict s entries ≡ Ok tt
   unfolding replace_conditions
   first = first_accepts (open_conditions s entries) (place_conditions s place object) e
 
-  here : first_of (place_conditions s place object) ≡ Accepted
+  here : first_of (place_conditions s place object) ≡ Ok tt
   unfolding replace_conditions
   here = then_accepts (open_conditions s entries) (place_conditions s place object) e
 
-  parts : (place < (layout_of s).n) × (length object ≡ (layout_of s).object_size) × (first_of (body_of (put_object place object s)) ≡ Accepted)
+  parts : (place < (layout_of s).n) × (length object ≡ (layout_of s).object_size) × (first_of (body_of (put_object place object s)) ≡ Ok tt)
   unfolding place_conditions
   parts = (
     ltb-true _ _ (is_met (ltb place (layout_of s).n) Place (head_accepts _ _ here)),

@@ -1,4 +1,5 @@
 -- Conditions 3 to 6 of the chart with one object replaced are those that the call tests. Assumes nothing.
+use Rattle.std.specs.Prelude.{Ok, Err}
 use Prim.Native.Nat.{ℕ, ◌+◌, ◌-◌, ◌<◌}
 use mathlib.Core.Path.{◌≡◌, refl, sym, ◌∙◌}
 use mathlib.Core.Bool.{Bool, true, false, not, cond, ◌&&◌}
@@ -20,8 +21,7 @@ use Rattle.chart_opening.specs.Accepted.{Clean, clean_body, header_ok_lem, body_
 use Rattle.chart_opening.specs.Header.{layout_of, settings_of, too_long}
 use Rattle.chart_opening.specs.Conditions.{first_of, refuse_if, body_conditions, Opens}
 use Rattle.chart_opening.specs.declared.Refusal.TheVariants.{Object, Entries, Order, Length}
-use Rattle.chart_opening.specs.declared.Verdict.{Verdict}
-use Rattle.chart_opening.specs.declared.Verdict.TheVariants.{Accepted, Refused}
+use Rattle.chart_opening.specs.Verdict.{Verdict}
 use Rattle.chart_replacing.specs.Local.{falls_here, falls_next, new_start, new_too_long, object_conditions, new_conditions}
 use Rattle.chart_replacing.specs.Replace.{put_object, place_conditions}
 use Rattle.chart_replacing.proofs.Searched.{one, two}
@@ -29,8 +29,8 @@ use Rattle.chart_replacing.specs.Replaced as R
 
 pub same_rest : (v : Verdict) (us vs : List Verdict) → first_of us ≡ first_of vs → first_of (v ∷ us) ≡ first_of (v ∷ vs)
 unfolding first_of
-same_rest Accepted us vs e = e
-same_rest (Refused r) us vs e = refl
+same_rest (Ok tt) us vs e = e
+same_rest (Err r) us vs e = refl
 
 -- ---- the chart with the object at its place
 

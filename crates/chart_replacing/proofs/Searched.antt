@@ -1,4 +1,5 @@
 -- A refusal at the lowest place, where the test can hold at one place only, or at two neighbours. Assumes nothing.
+use Rattle.std.specs.Prelude.{Ok, Err}
 use Prim.Native.Nat.{ℕ, ◌+◌, ◌≤◌, ◌<◌}
 use mathlib.Core.Path.{◌≡◌, refl, ◌∙◌, ap}
 use mathlib.Core.Bool.{Bool, true, false, ◌&&◌}
@@ -10,14 +11,13 @@ use borrow.Author.Tests.{lt-ltb, le-ltb, ltb-true, ltb-false}
 use Rattle.chart_fields.proofs.Search.{first_is, first_none}
 use Rattle.chart_opening.specs.Conditions.{refuse_if, refuse_at, first_of}
 use Rattle.chart_opening.specs.declared.Refusal.{Refusal}
-use Rattle.chart_opening.specs.declared.Verdict.{Verdict}
-use Rattle.chart_opening.specs.declared.Verdict.TheVariants.{Accepted, Refused}
+use Rattle.chart_opening.specs.Verdict.{Verdict}
 
 module _ (r : ℕ → Refusal) (bad : ℕ → Bool) (n : ℕ) where
-  at_is : (p : ℕ) → p < n → ((j : ℕ) → j < p → bad j ≡ false) → bad p ≡ true → refuse_at r bad n ≡ Refused (r p)
+  at_is : (p : ℕ) → p < n → ((j : ℕ) → j < p → bad j ≡ false) → bad p ≡ true → refuse_at r bad n ≡ Err (r p)
   at_is p h f e = simp (first_is bad n p h f e, lt-ltb p n h)
 
-  pub at_none : ((j : ℕ) → j < n → bad j ≡ false) → refuse_at r bad n ≡ Accepted
+  pub at_none : ((j : ℕ) → j < n → bad j ≡ false) → refuse_at r bad n ≡ Ok tt
   at_none f = simp (first_none bad n f, le-ltb n n (omega arith))
 
   module _ (p : ℕ) (h : p < n) where

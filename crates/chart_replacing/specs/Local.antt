@@ -9,7 +9,7 @@ use Rattle.chart_entries.specs.Entries.{wrong_entries}
 use Rattle.chart_opening.specs.Header.{far_apart}
 use Rattle.chart_opening.specs.Conditions.{refuse_if}
 use Rattle.chart_opening.specs.declared.Refusal.TheVariants.{Object, Entries, Order, Length}
-use Rattle.chart_opening.specs.declared.Verdict.{Verdict}
+use Rattle.chart_opening.specs.Verdict.{Verdict}
 
 -- condition 5 at the new object's place: it starts before its predecessor
 unfoldable pub falls_here : List ℕ → Layout → ℕ → Fields → Bool

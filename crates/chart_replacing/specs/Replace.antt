@@ -5,7 +5,7 @@ use Rattle.chart_fields.specs.Objects.{object_at}
 use Rattle.chart_opening.specs.Header.{layout_of}
 use Rattle.chart_opening.specs.Conditions.{refuse_if, first_of, body_of, open_conditions}
 use Rattle.chart_opening.specs.declared.Refusal.TheVariants.{Object, Place}
-use Rattle.chart_opening.specs.declared.Verdict.{Verdict}
+use Rattle.chart_opening.specs.Verdict.{Verdict}
 
 -- the bytes of the object at a place
 unfoldable pub object_bytes : List ℕ → ℕ → List ℕ

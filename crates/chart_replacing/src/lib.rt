@@ -10,7 +10,7 @@ ghost use Rattle.chart_replacing.specs.Replace.{put_object, place_conditions, re
 ghost use Rattle.chart_replacing.specs.Accepted.{Taken};
 
 use chart_fields::{Fields, Layout};
-use chart_opening::{Refusal, Verdict};
+use chart_opening::Refusal;
 
 // Copies s to d, from at on.
 pub fn put(d: &mut [u8], at: usize, s: &[u8])
@@ -58,26 +58,26 @@ pub fn check_object(
     next: usize,
     f: Fields,
     long: bool,
-) -> Verdict
+) -> Result<(), Refusal>
     requires { Holds chart.now lay × (place ≤ lay.n) }
     ensures { result ≡ first_of (object_conditions chart.now lay place next f long) }
 {
     if !chart_fields::fields_ok(f) {
-        return Verdict::Refused(Refusal::Object(place));
+        return Err(Refusal::Object(place));
     }
     if chart_entries::wrong_entries(chart, lay, f) {
-        return Verdict::Refused(Refusal::Entries(place));
+        return Err(Refusal::Entries(place));
     }
     if falls_here(chart, lay, place, f) {
-        return Verdict::Refused(Refusal::Order(place));
+        return Err(Refusal::Order(place));
     }
     if falls_next(chart, lay, next, f) {
-        return Verdict::Refused(Refusal::Order(place + 1));
+        return Err(Refusal::Order(place + 1));
     }
     if long {
-        return Verdict::Refused(Refusal::Length);
+        return Err(Refusal::Length);
     }
-    Verdict::Accepted
+    Ok(())
 }
 
 // The start at place j of the new chart.
@@ -107,7 +107,7 @@ pub fn new_too_long(chart: &[u8], lay: Layout, clock: f64, place: usize, f: Fiel
 }
 
 // Conditions 3 to 6 for the chart with an object of these fields at a place.
-fn check_new(chart: &[u8], lay: Layout, clock: f64, place: usize, f: Fields) -> Verdict
+fn check_new(chart: &[u8], lay: Layout, clock: f64, place: usize, f: Fields) -> Result<(), Refusal>
     requires { Holds chart.now lay × (place < lay.n) }
     ensures { result ≡ first_of (new_conditions chart.now lay clock place f) }
 {
@@ -117,16 +117,16 @@ fn check_new(chart: &[u8], lay: Layout, clock: f64, place: usize, f: Fields) -> 
 
 // Condition 8, then 3 to 6 for the chart as it would become; the chart as it is meets none of 1 to 6.
 #[tactic(auto, unfolding(crate::specs::Replace::place_conditions, chart_opening::specs::Conditions::first_of))]
-fn check_at(chart: &[u8], place: usize, object: &[u8]) -> Verdict
+fn check_at(chart: &[u8], place: usize, object: &[u8]) -> Result<(), Refusal>
     requires { Opens chart.now }
     ensures { result ≡ first_of (place_conditions chart.now place object.now) }
 {
     let lay = chart_opening::layout_of(chart);
     if lay.n <= place {
-        return Verdict::Refused(Refusal::Place);
+        return Err(Refusal::Place);
     }
     if object.len() != lay.object_size {
-        return Verdict::Refused(Refusal::Object(place));
+        return Err(Refusal::Object(place));
     }
     let settings = chart_opening::settings_at(chart, 32);
     let f = chart_fields::fields_at(object, 0, lay.object_size);
@@ -134,13 +134,16 @@ fn check_at(chart: &[u8], place: usize, object: &[u8]) -> Verdict
 }
 
 // All conditions of replacing in their order; entries is the number of entries of the shortest table.
-pub fn check_replace(chart: &[u8], place: usize, object: &[u8], entries: usize) -> Verdict
+pub fn check_replace(
+    chart: &[u8],
+    place: usize,
+    object: &[u8],
+    entries: usize,
+) -> Result<(), Refusal>
     ensures { result ≡ replace_verdict chart.now place object.now entries }
 {
-    match chart_opening::check(chart, entries) {
-        Verdict::Refused(r) => Verdict::Refused(r),
-        Verdict::Accepted => check_at(chart, place, object),
-    }
+    chart_opening::check(chart, entries)?;
+    check_at(chart, place, object)
 }
 
 // Writes an accepted object to its place.
@@ -157,15 +160,11 @@ pub fn put_object(chart: &mut [u8], place: usize, object: &[u8])
 }
 
 // Replaces the object at a place, or refuses and leaves the chart as it was.
-pub fn replace(chart: &mut [u8], place: usize, object: &[u8], entries: usize) -> Verdict
+pub fn replace(chart: &mut [u8], place: usize, object: &[u8], entries: usize) -> Result<(), Refusal>
     ensures answer { result ≡ replace_verdict chart.old place object.now entries }
     ensures chart { chart.new ≡ if_accepted result (put_object place object.now chart.old) (λ _. chart.old) }
 {
-    match check_replace(chart, place, object, entries) {
-        Verdict::Refused(r) => Verdict::Refused(r),
-        Verdict::Accepted => {
-            put_object(chart, place, object);
-            Verdict::Accepted
-        }
-    }
+    check_replace(chart, place, object, entries)?;
+    put_object(chart, place, object);
+    Ok(())
 }

@@ -1,4 +1,5 @@
 -- The conditions of a listed chart, as the code tries them, and what follows where none is met. Assumes nothing.
+use Rattle.std.specs.Prelude.{Ok, Err}
 use Prim.Native.Nat.{ℕ, zero, suc, ◌+◌, ◌≤◌, ◌<◌}
 use mathlib.Core.Path.{◌≡◌, refl, sym, ap, ap₂, ◌∙◌}
 use mathlib.Core.Bool.{Bool, true, false, not}
@@ -15,8 +16,7 @@ use Rattle.chart_opening.specs.Accepted.{opens_with, header_ok_lem, is_met, not_
 use Rattle.chart_opening.proofs.Header.{parts, holds}
 use Rattle.chart_opening.specs.declared.Refusal.{Refusal}
 use Rattle.chart_opening.specs.declared.Refusal.TheVariants.{Header, Table, Place, NotFinite}
-use Rattle.chart_opening.specs.declared.Verdict.{Verdict}
-use Rattle.chart_opening.specs.declared.Verdict.TheVariants.{Accepted, Refused}
+use Rattle.chart_opening.specs.Verdict.{Verdict}
 use Rattle.skills_stars.specs.Stars.{finite_asked}
 use Rattle.skills_stars.specs.declared.Asked.{Asked}
 use Rattle.calls.specs.Tables.{value_entries, entries_of}
@@ -32,14 +32,14 @@ use Rattle.pack.specs.Pack.{chart_verdict, listed_verdict, rank_verdict, chart_c
 
 pub one : (v : Verdict) → first_of (v ∷ []) ≡ v
 unfolding first_of
-one Accepted = refl
-one (Refused q) = refl
+one (Ok tt) = refl
+one (Err q) = refl
 
-pub passes : (v : Verdict) (vs : List Verdict) → v ≡ Accepted → first_of (v ∷ vs) ≡ first_of vs
+pub passes : (v : Verdict) (vs : List Verdict) → v ≡ Ok tt → first_of (v ∷ vs) ≡ first_of vs
 unfolding first_of
 passes v vs e = ap (λ (w : Verdict). first_of (w ∷ vs)) e
 
-pub stops : (v : Verdict) (vs : List Verdict) {q : Refusal} → v ≡ Refused q → first_of (v ∷ vs) ≡ Refused q
+pub stops : (v : Verdict) (vs : List Verdict) {q : Refusal} → v ≡ Err q → first_of (v ∷ vs) ≡ Err q
 unfolding first_of
 stops v vs e = ap (λ (w : Verdict). first_of (w ∷ vs)) e
 
@@ -47,12 +47,12 @@ stops v vs e = ap (λ (w : Verdict). first_of (w ∷ vs)) e
 
 module _ (asked : Asked) (r v : ℕ) (l : Lengths) where
   -- ratings try the same, once the chart opens
-  rated : (b : List ℕ) → opening r v b ≡ Accepted
+  rated : (b : List ℕ) → opening r v b ≡ Ok tt
       → figure_verdict (ratings asked) b (value_entries v) (scratch_short l) ≡ first_of (refuse_if (scratch_short l) Table ∷ refuse_if (not (finite_asked asked)) NotFinite ∷ [])
   unfolding asked_conditions first_of
   rated b e = go (scratch_short l) (sum_passed b (value_entries v) (scratch_short l) opens_so)
     where
-      opens_so : open_verdict b (value_entries v) ≡ Accepted
+      opens_so : open_verdict b (value_entries v) ≡ Ok tt
       opens_so = let (o, room) = opening_met r v b e in opens_with b (value_entries v) o (omega (arith, room.values))
 
       go : (short : Bool) → sum_verdict b (value_entries v) short ≡ refuse_if short Table
@@ -67,8 +67,8 @@ module _ (asked : Asked) (r v : ℕ) (l : Lengths) where
       go : (o : Verdict) → opening r v b ≡ o
           → first_of (opening r v b ∷ refuse_if (scratch_short l) Table ∷ refuse_if (not (finite_asked asked)) NotFinite ∷ [])
           ≡ first_of (opening r v b ∷ figure_verdict (ratings asked) b (value_entries v) (scratch_short l) ∷ [])
-      go Accepted e = passes _ _ e ∙ sym (passes _ _ e ∙ one _ ∙ rated b e)
-      go (Refused q) e = stops _ _ e ∙ sym (stops _ _ e)
+      go (Ok tt) e = passes _ _ e ∙ sym (passes _ _ e ∙ one _ ∙ rated b e)
+      go (Err q) e = stops _ _ e ∙ sym (stops _ _ e)
 
   pub listed_check_lem : (pack : List ℕ) (o : ℕ) → listed_check (entries_of r v) (scratch_short l) (finite_asked asked) pack o ≡ listed_verdict asked r v l pack o
   unfolding listed_check listed_verdict
@@ -80,19 +80,19 @@ module _ (asked : Asked) (r v : ℕ) (l : Lengths) where
 
   -- a chart that would open and be rated
   pub record Rateable (b : List ℕ) : Type 0 where
-    pub opens : opening r v b ≡ Accepted
+    pub opens : opening r v b ≡ Ok tt
     pub sums : Sums b v l
-    pub finite : first_of (asked_conditions (ratings asked) (count b)) ≡ Accepted
+    pub finite : first_of (asked_conditions (ratings asked) (count b)) ≡ Ok tt
 
   -- what its totals ask
-  summed : (b : List ℕ) → sum_verdict b (value_entries v) (scratch_short l) ≡ Accepted → Sums b v l
+  summed : (b : List ℕ) → sum_verdict b (value_entries v) (scratch_short l) ≡ Ok tt → Sums b v l
   summed b e =
       let (o, rows, short) = sum_accepted l v b e in
       let h = header_ok_lem b o in
       let s = long l short in
       record { long = (parts b h).long; holds = holds b h; rows = rows; aim = s.0; aim_no_sliders = s.1; speed = s.2; flashlight = s.3 }
 
-  pub rateable : (b : List ℕ) → chart_verdict asked r v l b ≡ Accepted → Rateable b
+  pub rateable : (b : List ℕ) → chart_verdict asked r v l b ≡ Ok tt → Rateable b
   unfolding chart_verdict figure_conditions
   rateable b e =
       let f = head_accepts _ _ (tail_accepts _ _ e) in
@@ -104,7 +104,7 @@ module _ (asked : Asked) (r v : ℕ) (l : Lengths) where
       }
 
   -- that lies in the pack
-  pub lies : (pack : List ℕ) (o : ℕ) → listed_verdict asked r v l pack o ≡ Accepted → Inside pack o × (chart_verdict asked r v l (chart_at pack o) ≡ Accepted)
+  pub lies : (pack : List ℕ) (o : ℕ) → listed_verdict asked r v l pack o ≡ Ok tt → Inside pack o × (chart_verdict asked r v l (chart_at pack o) ≡ Ok tt)
   unfolding listed_verdict
   lies pack o e = (is_inside_lem pack o (is_met (is_inside pack o) Header (head_accepts _ _ e)), head_accepts _ _ (tail_accepts _ _ e))
 
@@ -114,26 +114,26 @@ module _ (entries : ℕ) (short finite : Bool) (b : List ℕ) where
   by : Verdict → Bool → Bool → Verdict
   by o s f = first_of (o ∷ refuse_if s Table ∷ refuse_if (not f) NotFinite ∷ [])
 
-  pub check_refused : {q : Refusal} → open_verdict b entries ≡ Refused q → Refused q ≡ chart_check entries short finite b
+  pub check_refused : {q : Refusal} → open_verdict b entries ≡ Err q → Err q ≡ chart_check entries short finite b
   unfolding chart_check by first_of
   check_refused o = sym (ap (λ (v : Verdict). by v short finite) o)
 
-  pub check_short : open_verdict b entries ≡ Accepted → short ≡ true → Refused Table ≡ chart_check entries short finite b
+  pub check_short : open_verdict b entries ≡ Ok tt → short ≡ true → Err Table ≡ chart_check entries short finite b
   unfolding chart_check by first_of
   check_short o s = sym (ap₂ (λ (v : Verdict) (t : Bool). by v t finite) o s)
 
-  pub check_infinite : open_verdict b entries ≡ Accepted → short ≡ false → finite ≡ false → Refused NotFinite ≡ chart_check entries short finite b
+  pub check_infinite : open_verdict b entries ≡ Ok tt → short ≡ false → finite ≡ false → Err NotFinite ≡ chart_check entries short finite b
   unfolding chart_check by first_of
   check_infinite o s f = sym (λ i. by (o i) (s i) (f i))
 
-  pub check_passed : open_verdict b entries ≡ Accepted → short ≡ false → finite ≡ true → Accepted ≡ chart_check entries short finite b
+  pub check_passed : open_verdict b entries ≡ Ok tt → short ≡ false → finite ≡ true → (Ok tt) ≡ chart_check entries short finite b
   unfolding chart_check by first_of
   check_passed o s f = sym (λ i. by (o i) (s i) (f i))
 
 -- ---- The chart at an offset, as the code tries it
 
 module _ (entries : ℕ) (short finite : Bool) (pack : List ℕ) (o : ℕ) where
-  pub runs_past : is_inside pack o ≡ false → Refused Header ≡ listed_check entries short finite pack o
+  pub runs_past : is_inside pack o ≡ false → Err Header ≡ listed_check entries short finite pack o
   unfolding listed_check first_of
   runs_past e = sym (ap (λ (t : Bool). first_of (refuse_if (not t) Header ∷ chart_check entries short finite (chart_at pack o) ∷ [])) e)
 
@@ -160,20 +160,20 @@ module _ (f : ℕ → Verdict) where
           let k : i < length list = omega (arith, p.count) in
           sym (rw (drop-cons list i 0 k)) ∙ p.rest
 
-      pub next : i < n → f (get_or list i 0) ≡ Accepted → Passing list n (i + 1)
+      pub next : i < n → f (get_or list i 0) ≡ Ok tt → Passing list n (i + 1)
       next h e = record { within = omega arith; count = p.count; rest = rw add-one (sym (passes _ _ e) ∙ split h) }
 
-      pub found : i < n → {q : Refusal} → f (get_or list i 0) ≡ Refused q → Refused q ≡ first_of (map f list)
+      pub found : i < n → {q : Refusal} → f (get_or list i 0) ≡ Err q → Err q ≡ first_of (map f list)
       found h e = sym (stops _ _ e) ∙ split h
 
-      pub end : n ≤ i → Accepted ≡ first_of (map f list)
+      pub end : n ≤ i → (Ok tt) ≡ first_of (map f list)
       unfolding first_of
       end h =
           let k : length list ≤ i = omega (arith, p.count) in
           let d : drop i list ≡ [] = drop_of_length-le list k in
           sym (rw d) ∙ p.rest
 
-  pub each : (list : List ℕ) → first_of (map f list) ≡ Accepted → (i : ℕ) → i < length list → f (get_or list i 0) ≡ Accepted
+  pub each : (list : List ℕ) → first_of (map f list) ≡ Ok tt → (i : ℕ) → i < length list → f (get_or list i 0) ≡ Ok tt
   each [] e i h = absurd (not-suc-le-zero h)
   each (o ∷ os) e zero h = head_accepts _ _ e
   each (o ∷ os) e (suc i) h = each os (tail_accepts _ _ e) i (le_of_suc-le-suc h)
@@ -181,7 +181,7 @@ module _ (f : ℕ → Verdict) where
 -- ---- A ranking
 
 module _ (asked : Asked) (r v : ℕ) (l : Lengths) (pack list : List ℕ) where
-  pub too_many : most_charts < length list → Refused Place ≡ rank_verdict asked r v l pack list
+  pub too_many : most_charts < length list → Err Place ≡ rank_verdict asked r v l pack list
   unfolding rank_verdict first_of
   too_many h = sym (ap (λ (t : Bool). first_of (refuse_if t Place ∷ map (listed_verdict asked r v l pack) list)) (lt-ltb most_charts (length list) h))
 
@@ -189,6 +189,6 @@ module _ (asked : Asked) (r v : ℕ) (l : Lengths) (pack list : List ℕ) where
   unfolding rank_verdict
   not_many h = sym (passes _ _ (ap (λ (t : Bool). refuse_if t Place) (le-ltb most_charts (length list) h)))
 
-  pub accepted : rank_verdict asked r v l pack list ≡ Accepted → (length list ≤ most_charts) × (first_of (map (listed_verdict asked r v l pack) list) ≡ Accepted)
+  pub accepted : rank_verdict asked r v l pack list ≡ Ok tt → (length list ≤ most_charts) × (first_of (map (listed_verdict asked r v l pack) list) ≡ Ok tt)
   unfolding rank_verdict
   accepted e = (ltb-false most_charts (length list) (not_met (ltb most_charts (length list)) Place (head_accepts _ _ e)), tail_accepts _ _ e)

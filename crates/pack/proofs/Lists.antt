@@ -1,4 +1,5 @@
 -- A ranking, by what its checks answer: refused it changes nothing, carried out it leaves the listing. Assumes nothing.
+use Rattle.std.specs.Prelude.{Ok, Err}
 use Prim.Native.Nat.{ℕ, ◌*◌, ◌≤◌, ◌<◌}
 use mathlib.Core.Path.{◌≡◌, refl, ap, ◌∙◌}
 use mathlib.Core.Bool.{Bool}
@@ -9,8 +10,7 @@ use Rattle.num_floats.specs.Numbers.{zero64}
 use Rattle.num_tables.specs.Parts.{fill}
 use Rattle.chart_opening.specs.Conditions.{first_of, if_accepted}
 use Rattle.chart_opening.specs.declared.Refusal.{Refusal}
-use Rattle.chart_opening.specs.declared.Verdict.{Verdict}
-use Rattle.chart_opening.specs.declared.Verdict.TheVariants.{Accepted, Refused}
+use Rattle.chart_opening.specs.Verdict.{Verdict}
 use Rattle.skills_stars.specs.Stars.{finite_asked}
 use Rattle.skills_stars.specs.declared.Asked.{Asked}
 use Rattle.calls.specs.Tables.{entries_of}
@@ -43,21 +43,21 @@ module _ (asked : Asked) (r v : ℕ) (l : Lengths) (pack list : List ℕ) where
 
 module _ (asked : Asked) (pack list : List ℕ) (t : Tables) (x : Scratch) where
   -- ---- What is left
-  pub refused_leaves : {q : Refusal} → Refused q ≡ rank_answer asked pack (buffers list t x) → buffers list t x ≡ rank_leaves asked pack (buffers list t x)
+  pub refused_leaves : {q : Refusal} → Err q ≡ rank_answer asked pack (buffers list t x) → buffers list t x ≡ rank_leaves asked pack (buffers list t x)
   unfolding rank_leaves if_accepted
   refused_leaves e = ap (λ (v : Verdict). if_accepted v (ranked_buffers asked pack (buffers list t x)) (λ r. buffers list t x)) e
 
-  pub carried_leaves : Accepted ≡ rank_answer asked pack (buffers list t x) → ranked_buffers asked pack (buffers list t x) ≡ rank_leaves asked pack (buffers list t x)
+  pub carried_leaves : (Ok tt) ≡ rank_answer asked pack (buffers list t x) → ranked_buffers asked pack (buffers list t x) ≡ rank_leaves asked pack (buffers list t x)
   unfolding rank_leaves if_accepted
   carried_leaves e = ap (λ (v : Verdict). if_accepted v (ranked_buffers asked pack (buffers list t x)) (λ r. buffers list t x)) e
 
   -- ---- Carried out
-  module _ (a : rank_answer asked pack (buffers list t x) ≡ Accepted) where
+  module _ (a : rank_answer asked pack (buffers list t x) ≡ Ok tt) where
     pub few : length list ≤ most_charts
     unfolding rank_answer
     few = (accepted asked (length t.records) (length t.values) (lengths x) pack list a).0
 
-    pub all_pass : first_of (map (listed_verdict asked (length t.records) (length t.values) (lengths x) pack) list) ≡ Accepted
+    pub all_pass : first_of (map (listed_verdict asked (length t.records) (length t.values) (lengths x) pack) list) ≡ Ok tt
     unfolding rank_answer
     all_pass = (accepted asked (length t.records) (length t.values) (lengths x) pack list a).1
 

@@ -1,4 +1,5 @@
 -- Order 13: every claim of `Statement`. Assumes nothing.
+use Rattle.std.specs.Prelude.{Ok, Err}
 use Prim.Native.Nat.{ℕ, ◌*◌, ◌≤◌, ◌<◌}
 use mathlib.Core.Path.{◌≡◌, refl, sym, ap, ◌∙◌}
 use mathlib.Core.Bool.{Bool, true, false, not, true≢false}
@@ -10,8 +11,7 @@ use lib.ListN.{length}
 use Rattle.chart_opening.specs.Header.{settings_of}
 use Rattle.chart_opening.specs.Conditions.{refuse_if, first_of, if_accepted}
 use Rattle.chart_opening.specs.declared.Refusal.TheVariants.{Header, Place}
-use Rattle.chart_opening.specs.declared.Verdict.{Verdict}
-use Rattle.chart_opening.specs.declared.Verdict.TheVariants.{Accepted, Refused}
+use Rattle.chart_opening.specs.Verdict.{Verdict}
 use Rattle.skills_stars.specs.Stars.{ratings_of}
 use Rattle.skills_stars.specs.declared.Asked.{Asked}
 use Rattle.calls.specs.Tables.{record_width, value_width}
@@ -53,8 +53,8 @@ numbers = record { nan-below = nan-below; nans_alike = refl; zeros_alike = refl 
 
 -- ---- The numbers of a chart
 
-module _ (asked : Asked) (l : Lengths) (b : List ℕ) (t : Tables) (e : chart_verdict asked (length t.records) (length t.values) l b ≡ Accepted) where
-  from : (f : Figure) → first_of (asked_conditions f (count b)) ≡ Accepted → figure_from f (settings_of b) b (opened_into b t).values ≡ fresh_figure f (settings_of b) b
+module _ (asked : Asked) (l : Lengths) (b : List ℕ) (t : Tables) (e : chart_verdict asked (length t.records) (length t.values) l b ≡ Ok tt) where
+  from : (f : Figure) → first_of (asked_conditions f (count b)) ≡ Ok tt → figure_from f (settings_of b) b (opened_into b t).values ≡ fresh_figure f (settings_of b) b
   unfolding opened_into opened
   from f a =
       let (o, room) = opening_met (length t.records) (length t.values) b (rateable asked (length t.records) (length t.values) l b e).opens in
@@ -78,14 +78,14 @@ listed asked pack list = record {
 
 -- each opening is carried out, and keeps the tables' lengths
 module _ (asked : Asked) (r v : ℕ) (l : Lengths) (pack : List ℕ) where
-  module _ (o : ℕ) (t : Tables) (er : length t.records ≡ r) (ev : length t.values ≡ v) (e : listed_verdict asked r v l pack o ≡ Accepted) where
+  module _ (o : ℕ) (t : Tables) (er : length t.records ≡ r) (ev : length t.values ≡ v) (e : listed_verdict asked r v l pack o ≡ Ok tt) where
     abbrev b : List ℕ
     b = chart_at pack o
 
-    would_open : opening r v b ≡ Accepted
+    would_open : opening r v b ≡ Ok tt
     would_open = (rateable asked r v l b (lies asked r v l pack o e).1).opens
 
-    opens_so : open_answer (state b t.records t.values) ≡ Accepted
+    opens_so : open_answer (state b t.records t.values) ≡ Ok tt
     unfolding open_answer
     opens_so = (λ i. opening (er i) (ev i) b) ∙ would_open
 
@@ -101,7 +101,7 @@ module _ (asked : Asked) (r v : ℕ) (l : Lengths) (pack : List ℕ) where
         let vh : value_width * count b ≤ length t.values = omega (arith, room.values, ev) in
         (open_records_length (settings_of b) b t.records t.values rh vh ∙ er, open_values_length (settings_of b) b t.records t.values rh vh ∙ ev)
 
-  opens-all : (list : List ℕ) (t : Tables) → length t.records ≡ r → length t.values ≡ v → All (λ (o : ℕ). listed_verdict asked r v l pack o ≡ Accepted) list
+  opens-all : (list : List ℕ) (t : Tables) → length t.records ≡ r → length t.values ≡ v → All (λ (o : ℕ). listed_verdict asked r v l pack o ≡ Ok tt) list
       → tables_after pack list t ≡ open_all pack list t
   unfolding tables_after open_all
   opens-all [] t er ev q = refl
@@ -110,7 +110,7 @@ module _ (asked : Asked) (r v : ℕ) (l : Lengths) (pack : List ℕ) where
       opens-all os (opened_into (chart_at pack o) t) kr kv q.1 ∙ ap (open_all pack os) (sym (opens_into o t er ev q.0))
 
 module _ (asked : Asked) (pack : List ℕ) (x : Buffers) where
-  carried : rank_answer asked pack x ≡ Accepted
+  carried : rank_answer asked pack x ≡ Ok tt
       → rank_leaves asked pack x ≡ buffers (listing_of asked pack x.list) (open_all pack x.list x.tables) (cleared x.scratch)
   unfolding ranked_buffers
   carried e =
@@ -120,11 +120,11 @@ module _ (asked : Asked) (pack : List ℕ) (x : Buffers) where
       (to_all (listed_verdict asked (length x.tables.records) (length x.tables.values) (lengths x.scratch) pack) x.list
       (all_pass asked pack x.list x.tables x.scratch e)))
 
-  none_tried : x.list ≡ [] → rank_answer asked pack x ≡ Accepted
+  none_tried : x.list ≡ [] → rank_answer asked pack x ≡ Ok tt
   unfolding rank_answer rank_verdict first_of
   none_tried e = ap (rank_verdict asked (length x.tables.records) (length x.tables.values) (lengths x.scratch) pack) e
 
-  many : most_charts < length x.list → rank_answer asked pack x ≡ Refused Place
+  many : most_charts < length x.list → rank_answer asked pack x ≡ Err Place
   unfolding rank_answer
   many h = sym (too_many asked (length x.tables.records) (length x.tables.values) (lengths x.scratch) pack x.list h)
 
@@ -136,22 +136,22 @@ module _ (asked : Asked) (pack : List ℕ) (x : Buffers) where
     empty = none_tried;
   }
 
-past : (asked : Asked) (r v : ℕ) (l : Lengths) (pack : List ℕ) (o : ℕ) → (Inside pack o → ⊥) → listed_verdict asked r v l pack o ≡ Refused Header
+past : (asked : Asked) (r v : ℕ) (l : Lengths) (pack : List ℕ) (o : ℕ) → (Inside pack o → ⊥) → listed_verdict asked r v l pack o ≡ Err Header
 unfolding listed_verdict
 past asked r v l pack o h = go (is_inside pack o) refl
   where
-    go : (t : Bool) → is_inside pack o ≡ t → first_of (refuse_if (not (is_inside pack o)) Header ∷ chart_verdict asked r v l (chart_at pack o) ∷ []) ≡ Refused Header
+    go : (t : Bool) → is_inside pack o ≡ t → first_of (refuse_if (not (is_inside pack o)) Header ∷ chart_verdict asked r v l (chart_at pack o) ∷ []) ≡ Err Header
     go true e = absurd (h (is_inside_lem pack o e))
     go false e = stops _ _ (ap (λ (t : Bool). refuse_if (not t) Header) e)
 
 -- ---- Parts
 
-module _ (asked : Asked) (pack xs ys : List ℕ) (t : Tables) (x : Scratch) (e : rank_answer asked pack (buffers (xs ++ ys) t x) ≡ Accepted) where
-  left : (list : List ℕ) → rank_answer asked pack (buffers list t x) ≡ Accepted → (rank_leaves asked pack (buffers list t x)).list ≡ listing_of asked pack list
+module _ (asked : Asked) (pack xs ys : List ℕ) (t : Tables) (x : Scratch) (e : rank_answer asked pack (buffers (xs ++ ys) t x) ≡ Ok tt) where
+  left : (list : List ℕ) → rank_answer asked pack (buffers list t x) ≡ Ok tt → (rank_leaves asked pack (buffers list t x)).list ≡ listing_of asked pack list
   unfolding ranked_buffers
   left list a = ap (λ (y : Buffers). y.list) (sym (carried_leaves asked pack list t x (sym a)))
 
-  joins : rank_answer asked pack (buffers (listing_of asked pack xs ++ listing_of asked pack ys) t x) ≡ Accepted
+  joins : rank_answer asked pack (buffers (listing_of asked pack xs ++ listing_of asked pack ys) t x) ≡ Ok tt
   unfolding rank_answer
   joins = joined_parts asked (length t.records) (length t.values) (lengths x) pack xs ys e
 

@@ -4,7 +4,7 @@ use Rattle.std.specs.Prelude.{ℕ, Bool, not, List, [], ◌∷◌, map, ltb, Flo
 use Rattle.chart_opening.specs.Header.{settings_of}
 use Rattle.chart_opening.specs.Conditions.{refuse_if, first_of, if_accepted, open_verdict}
 use Rattle.chart_opening.specs.declared.Refusal.TheVariants.{Header, Table, Place, NotFinite}
-use Rattle.chart_opening.specs.declared.Verdict.{Verdict}
+use Rattle.chart_opening.specs.Verdict.{Verdict}
 use Rattle.skills.specs.declared.Skills.{Skills}
 use Rattle.skills_stars.specs.Stars.{ratings_of}
 use Rattle.skills_stars.specs.declared.Asked.{Asked}

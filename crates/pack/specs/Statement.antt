@@ -1,13 +1,12 @@
 -- What is claimed of packs: the order of charts (`Ordered`), a listing (`Listed`), what a ranking answers and leaves (`Answered`), and parts that are joined
 -- (`Parts`). `Claims` has them all. Definitions only.
-use Rattle.std.specs.Prelude.{ℕ, ◌≤◌, ◌<◌, ◌≡◌, ◌↔◌, ◌⊎◌, true, false, List, [], ◌∷◌, ◌++◌, eqb, Float, length}
+use Rattle.std.specs.Prelude.{ℕ, ◌≤◌, ◌<◌, ◌≡◌, ◌↔◌, ◌⊎◌, true, false, List, [], ◌∷◌, ◌++◌, eqb, Float, length, Ok, Err}
 use Rattle.std.specs.Float.{nan}
 use Rattle.std.specs.Float.Ieee.{is_nan}
 use Rattle.num_floats.specs.Numbers.{f64, zero64}
 use Rattle.chart_opening.specs.Header.{settings_of}
 use Rattle.chart_opening.specs.declared.Refusal.{Refusal}
 use Rattle.chart_opening.specs.declared.Refusal.TheVariants.{Header, Place}
-use Rattle.chart_opening.specs.declared.Verdict.TheVariants.{Accepted, Refused}
 use Rattle.skills_stars.specs.Stars.{ratings_of}
 use Rattle.skills_stars.specs.declared.Asked.{Asked}
 use Rattle.calls.specs.Afresh.{count, totals, ratings, totals_are, ratings_are, figure_from}
@@ -65,22 +64,22 @@ open_all pack [] t = t
 open_all pack (o ∷ os) t = open_all pack os (tables_of (open_leaves (state (chart_at pack o) t.records t.values)))
 
 pub record Answered (asked : Asked) (pack : List ℕ) (x : Buffers) : Type 0 where
-  pub too_many : most_charts < length x.list → rank_answer asked pack x ≡ Refused Place
+  pub too_many : most_charts < length x.list → rank_answer asked pack x ≡ Err Place
   -- refused, it leaves all as it was lent
-  pub refused : (q : Refusal) → rank_answer asked pack x ≡ Refused q → rank_leaves asked pack x ≡ x
+  pub refused : (q : Refusal) → rank_answer asked pack x ≡ Err q → rank_leaves asked pack x ≡ x
   -- carried out, the list is the listing, the tables stand as opening the charts in the lent order leaves them, and all scratch is 0
-  pub carried : rank_answer asked pack x ≡ Accepted
+  pub carried : rank_answer asked pack x ≡ Ok tt
       → rank_leaves asked pack x ≡ buffers (listing_of asked pack x.list) (open_all pack x.list x.tables) (cleared x.scratch)
   -- with an empty list no chart is tried
-  pub empty : x.list ≡ [] → rank_answer asked pack x ≡ Accepted
+  pub empty : x.list ≡ [] → rank_answer asked pack x ≡ Ok tt
 
 -- ---- "Parts of a pack may be ranked alone and then joined, with the same listing as the whole"
 
 -- where the whole list xs, ys is carried out: so are its parts, and so is joining the listings of the parts, whose listing is the whole's
 pub record Parts (asked : Asked) (pack xs ys : List ℕ) (t : Tables) (x : Scratch) : Type 0 where
-  pub first : rank_answer asked pack (buffers xs t x) ≡ Accepted
-  pub second : rank_answer asked pack (buffers ys t x) ≡ Accepted
-  pub joined : rank_answer asked pack (buffers (listing_of asked pack xs ++ listing_of asked pack ys) t x) ≡ Accepted
+  pub first : rank_answer asked pack (buffers xs t x) ≡ Ok tt
+  pub second : rank_answer asked pack (buffers ys t x) ≡ Ok tt
+  pub joined : rank_answer asked pack (buffers (listing_of asked pack xs ++ listing_of asked pack ys) t x) ≡ Ok tt
   pub listing : (rank_leaves asked pack (buffers (listing_of asked pack xs ++ listing_of asked pack ys) t x)).list ≡ (rank_leaves asked pack (buffers (xs ++ ys) t x)).list
 
 -- ---- All of it. The promises of `pack::rank` and `pack::join` are the same, word for word: joining two lists answers as ranking them as one.
@@ -89,7 +88,7 @@ pub record Claims : Type 0 where
   pub order : (asked : Asked) → Ordered asked
   pub numbers : Numbers
   -- the numbers by which charts are ordered are what the calls for ratings and totals give once the chart is opened, into any tables that are long enough
-  pub keys : (asked : Asked) (l : Lengths) (b : List ℕ) (t : Tables) → chart_verdict asked (length t.records) (length t.values) l b ≡ Accepted
+  pub keys : (asked : Asked) (l : Lengths) (b : List ℕ) (t : Tables) → chart_verdict asked (length t.records) (length t.values) l b ≡ Ok tt
       → (figure_from (ratings asked) (settings_of b) b (opened_into b t).values ≡ ratings_are (ratings_of (fresh_totals b) (count b) asked))
       × (figure_from totals (settings_of b) b (opened_into b t).values ≡ totals_are (fresh_totals b))
   -- "the higher chart first, and charts of equal bytes by offset, lower first"
@@ -99,8 +98,8 @@ pub record Claims : Type 0 where
   pub answered : (asked : Asked) (pack : List ℕ) (x : Buffers) → Answered asked pack x
   -- "The first listed chart that wouldn't open or be rated stops the ranking with its own number and place"
   pub first : (asked : Asked) (r v : ℕ) (l : Lengths) (pack os : List ℕ) (o : ℕ) (ps : List ℕ) (q : Refusal)
-      → length (os ++ (o ∷ ps)) ≤ most_charts → rank_verdict asked r v l pack os ≡ Accepted
-      → listed_verdict asked r v l pack o ≡ Refused q → rank_verdict asked r v l pack (os ++ (o ∷ ps)) ≡ Refused q
+      → length (os ++ (o ∷ ps)) ≤ most_charts → rank_verdict asked r v l pack os ≡ Ok tt
+      → listed_verdict asked r v l pack o ≡ Err q → rank_verdict asked r v l pack (os ++ (o ∷ ps)) ≡ Err q
   -- "A chart that runs past the pack is 1"
-  pub past : (asked : Asked) (r v : ℕ) (l : Lengths) (pack : List ℕ) (o : ℕ) → (Inside pack o → ⊥) → listed_verdict asked r v l pack o ≡ Refused Header
-  pub parts : (asked : Asked) (pack xs ys : List ℕ) (t : Tables) (x : Scratch) → rank_answer asked pack (buffers (xs ++ ys) t x) ≡ Accepted → Parts asked pack xs ys t x
+  pub past : (asked : Asked) (r v : ℕ) (l : Lengths) (pack : List ℕ) (o : ℕ) → (Inside pack o → ⊥) → listed_verdict asked r v l pack o ≡ Err Header
+  pub parts : (asked : Asked) (pack xs ys : List ℕ) (t : Tables) (x : Scratch) → rank_answer asked pack (buffers (xs ++ ys) t x) ≡ Ok tt → Parts asked pack xs ys t x

@@ -2,11 +2,10 @@
 // caller: a call answers the first condition that the first such chart of the list meets and changes nothing, or is carried out and leaves all scratch 0.
 #![tactic(auto)]
 
-ghost use Rattle.std.specs.Prelude.{◌≡◌, map, ◌+◌, ◌*◌, ◌≤◌, ◌<◌, length, get_or};
+ghost use Rattle.std.specs.Prelude.{◌≡◌, map, ◌+◌, ◌*◌, ◌≤◌, ◌<◌, length, get_or, Ok};
 ghost use Rattle.num_tables.specs.Parts.{put, fill};
 ghost use Rattle.chart_opening.specs.Header.{layout_of, settings_of};
 ghost use Rattle.chart_opening.specs.Conditions.{first_of};
-ghost use Rattle.chart_opening.specs.declared.Verdict.TheVariants.{Accepted};
 ghost use Rattle.skills.specs.Chart.{totals_of};
 ghost use Rattle.calls.specs.Conditions.{lengths, opening};
 ghost use Rattle.calls.specs.Calls.{cleared};
@@ -15,7 +14,7 @@ ghost use Rattle.pack_order.specs.Listing.{chart_at, ranked, most_charts, key_wi
 ghost use Rattle.pack.specs.Pack.{key_row, key_from, key_of, chart_verdict, listed_verdict, rank_verdict, tables, opened_into, tables_after, buffers, rank_answer};
 ghost use Rattle.pack.specs.Pack.{ranked_buffers, rank_leaves, chart_check, listed_check};
 
-use chart_opening::{Refusal, Verdict};
+use chart_opening::Refusal;
 use skills::Skills;
 use skills_stars::Asked;
 
@@ -34,52 +33,48 @@ pub struct Key {
 }
 
 // Whether a chart would open and be rated.
-fn check_chart(chart: &[u8], entries: usize, short: bool, finite: bool) -> Verdict
+fn check_chart(chart: &[u8], entries: usize, short: bool, finite: bool) -> Result<(), Refusal>
     ensures { result ≡ chart_check entries short finite chart.now }
 {
-    match chart_opening::check(chart, entries) {
-        Verdict::Refused(r) => Verdict::Refused(r),
-        Verdict::Accepted => {
-            if short {
-                return Verdict::Refused(Refusal::Table);
-            }
-            if !finite {
-                return Verdict::Refused(Refusal::NotFinite);
-            }
-            Verdict::Accepted
-        }
+    chart_opening::check(chart, entries)?;
+    if short {
+        return Err(Refusal::Table);
     }
+    if !finite {
+        return Err(Refusal::NotFinite);
+    }
+    Ok(())
 }
 
 // Whether the chart at an offset lies in the pack, would open and be rated.
-fn check_listed(pack: &[u8], at: usize, entries: usize, short: bool, finite: bool) -> Verdict
+fn check_listed(pack: &[u8], at: usize, entries: usize, short: bool, finite: bool) -> Result<(), Refusal>
     ensures { result ≡ listed_check entries short finite pack.now at }
 {
     if !pack_order::inside(pack, at) {
-        return Verdict::Refused(Refusal::Header);
+        return Err(Refusal::Header);
     }
     let end = at + pack_order::length_at(pack, at);
     check_chart(&pack[at..end], entries, short, finite)
 }
 
 // The first listed chart that would not stops it.
-fn check_all(pack: &[u8], list: &[usize], entries: usize, short: bool, finite: bool) -> Verdict
+fn check_all(pack: &[u8], list: &[usize], entries: usize, short: bool, finite: bool) -> Result<(), Refusal>
     ensures { result ≡ first_of (map (listed_check entries short finite pack.now) list.now) }
 {
     let n = list.len();
     let mut i = 0;
     while i < n {
         match check_listed(pack, list[i], entries, short, finite) {
-            Verdict::Refused(r) => return Verdict::Refused(r),
-            Verdict::Accepted => i += 1,
+            Err(r) => return Err(r),
+            Ok(()) => i += 1,
         }
     }
-    Verdict::Accepted
+    Ok(())
 }
 
 // Fills entries 1 to N - 1 of an accepted chart's tables.
 fn fill_tables(chart: &[u8], records: &mut [f64], values: &mut [f64])
-    requires { opening (length records.old) (length values.old) chart.now ≡ Accepted }
+    requires { opening (length records.old) (length values.old) chart.now ≡ Ok tt }
     ensures { tables records.new values.new
         ≡ opened_into chart.now (tables records.old values.old) }
 {
@@ -135,7 +130,7 @@ fn rate_chart(
     flashlight: &mut [f64],
 ) -> Key
     requires { chart_verdict asked (length records.old) (length values.old)
-        (lengths (scratch_of aim.old aim_no_sliders.old speed.old flashlight.old)) chart.now ≡ Accepted }
+        (lengths (scratch_of aim.old aim_no_sliders.old speed.old flashlight.old)) chart.now ≡ Ok tt }
     ensures key { key_row result ≡ key_of asked chart.now }
     ensures tables { tables records.new values.new
         ≡ opened_into chart.now (tables records.old values.old) }
@@ -157,7 +152,7 @@ fn rate_listed(
     flashlight: &mut [f64],
 ) -> Key
     requires { listed_verdict asked (length records.old) (length values.old)
-        (lengths (scratch_of aim.old aim_no_sliders.old speed.old flashlight.old)) pack.now at ≡ Accepted }
+        (lengths (scratch_of aim.old aim_no_sliders.old speed.old flashlight.old)) pack.now at ≡ Ok tt }
     ensures key { key_row result ≡ key_of asked (chart_at pack.now at) }
     ensures tables { tables records.new values.new
         ≡ opened_into (chart_at pack.now at) (tables records.old values.old) }
@@ -202,7 +197,7 @@ fn rate_all(
 )
     requires list_len_bound { (length list.now ≤ most_charts) × (key_width * length list.now ≤ length keys.old) }
     requires list_value { first_of (map (listed_verdict asked (length records.old) (length values.old)
-        (lengths (scratch_of aim.old aim_no_sliders.old speed.old flashlight.old)) pack.now) list.now) ≡ Accepted }
+        (lengths (scratch_of aim.old aim_no_sliders.old speed.old flashlight.old)) pack.now) list.now) ≡ Ok tt }
     ensures keys { keys.new
         ≡ fill key_width (λ i. key_of asked (chart_at pack.now (get_or list.now i 0)))
         0 (length list.now) keys.old }
@@ -253,7 +248,7 @@ fn list_all(
     flashlight: &mut [f64],
 )
     requires { rank_answer asked pack.now (buffers list.old (tables records.old values.old)
-        (scratch_of aim.old aim_no_sliders.old speed.old flashlight.old)) ≡ Accepted }
+        (scratch_of aim.old aim_no_sliders.old speed.old flashlight.old)) ≡ Ok tt }
     ensures { buffers list.new (tables records.new values.new)
         (scratch_of aim.new aim_no_sliders.new speed.new flashlight.new)
         ≡ ranked_buffers asked pack.now (buffers list.old (tables records.old values.old)
@@ -287,14 +282,14 @@ pub fn check(
     aim_no_sliders: usize,
     speed: usize,
     flashlight: usize,
-) -> Verdict
+) -> Result<(), Refusal>
     ensures answer { result ≡ rank_verdict asked records values
         (record { aim = aim; aim_no_sliders = aim_no_sliders; speed = speed; flashlight = flashlight }) pack.now list.now }
     ensures pack { pack.now ≡ pack.now }
     ensures list { list.now ≡ list.now }
 {
     if MOST_CHARTS < list.len() {
-        return Verdict::Refused(Refusal::Place);
+        return Err(Refusal::Place);
     }
     let entries = calls::entries_in(records, values);
     let short = calls::scratch_short(aim, aim_no_sliders, speed, flashlight);
@@ -313,7 +308,7 @@ pub fn join(
     aim_no_sliders: &mut [f64],
     speed: &mut [f64],
     flashlight: &mut [f64],
-) -> Verdict
+) -> Result<(), Refusal>
     ensures answer { result ≡ rank_answer asked pack.now (buffers list.old (tables records.old values.old)
         (scratch_of aim.old aim_no_sliders.old speed.old flashlight.old)) }
     ensures leaves { buffers list.new (tables records.new values.new)
@@ -322,7 +317,7 @@ pub fn join(
         (scratch_of aim.old aim_no_sliders.old speed.old flashlight.old)) }
     ensures pack { pack.now ≡ pack.now }
 {
-    match check(
+    check(
         pack,
         list,
         asked,
@@ -332,24 +327,20 @@ pub fn join(
         aim_no_sliders.len(),
         speed.len(),
         flashlight.len(),
-    ) {
-        Verdict::Refused(r) => Verdict::Refused(r),
-        Verdict::Accepted => {
-            list_all(
-                pack,
-                list,
-                first,
-                asked,
-                records,
-                values,
-                aim,
-                aim_no_sliders,
-                speed,
-                flashlight,
-            );
-            Verdict::Accepted
-        }
-    }
+    )?;
+    list_all(
+        pack,
+        list,
+        first,
+        asked,
+        records,
+        values,
+        aim,
+        aim_no_sliders,
+        speed,
+        flashlight,
+    );
+    Ok(())
 }
 
 // Puts a list of offsets into a pack in order, the higher chart first, and charts of equal bytes by offset, the lower first.
@@ -363,7 +354,7 @@ pub fn rank(
     aim_no_sliders: &mut [f64],
     speed: &mut [f64],
     flashlight: &mut [f64],
-) -> Verdict
+) -> Result<(), Refusal>
     ensures answer { result ≡ rank_answer asked pack.now (buffers list.old (tables records.old values.old)
         (scratch_of aim.old aim_no_sliders.old speed.old flashlight.old)) }
     ensures leaves { buffers list.new (tables records.new values.new)

@@ -1,4 +1,5 @@
 -- What a program may do with a chart that `check` accepts. Assumes nothing.
+use Rattle.std.specs.Prelude.{Ok}
 use Prim.Native.Nat.{ℕ, ◌*◌, ◌≤◌}
 use mathlib.Core.Path.{◌≡◌, sym, subst, ◌∙◌}
 use mathlib.Core.List.{List}
@@ -9,8 +10,7 @@ use Rattle.chart_fields.specs.Objects.{Holds}
 use Rattle.chart_fields.specs.declared.Layout.{Layout}
 use Rattle.chart_opening.specs.Header.{layout_of}
 use Rattle.chart_opening.specs.Conditions.{open_verdict}
-use Rattle.chart_opening.specs.declared.Verdict.{Verdict}
-use Rattle.chart_opening.specs.declared.Verdict.TheVariants.{Accepted}
+use Rattle.chart_opening.specs.Verdict.{Verdict}
 use Rattle.chart_opening.proofs.Header.{parts, holds}
 use Rattle.osu_object.specs.Osu.{Ready}
 use Rattle.osu_difficulty_object.proofs.Accepted.{Opened, opened}
@@ -24,7 +24,7 @@ pub record Fits (s : List ℕ) (entries : ℕ) (lay : Layout) : Type 0 where
   pub value_room : (v : ℕ) → 5 * entries ≤ v → 5 * lay.n ≤ v
   pub readable : (values : List Float) → 5 * lay.n ≤ length values → Readable s lay values
 
-module _ (s : List ℕ) (entries : ℕ) (v : Verdict) (e : v ≡ open_verdict s entries) (a : v ≡ Accepted) where
+module _ (s : List ℕ) (entries : ℕ) (v : Verdict) (e : v ≡ open_verdict s entries) (a : v ≡ Ok tt) where
   told : Opened s entries
   told = opened s entries (sym e ∙ a)
 

@@ -1,5 +1,6 @@
 -- What the calls answer on a chart within the limit: opening as conditions 1 to 6 say, readings, totals and counts what the filled table holds.
 -- Assumes nothing.
+use Rattle.std.specs.Prelude.{Result, Ok, Err}
 use Prim.Native.Nat.{ℕ, ◌*◌, ◌/◌, ◌≤◌, ◌<◌}
 use native.Mathlib.Nat.{mul-le-mul, le_refl}
 use native.Mathlib.Omega.{arith}
@@ -14,8 +15,7 @@ use Rattle.chart_opening.specs.Header.{layout_of, settings_of}
 use Rattle.chart_opening.specs.Conditions.{refusal_number, refusal_place, first_of, if_accepted, chart_conditions, Opens, open_conditions}
 use Rattle.chart_opening.specs.Accepted.{first_refused, header_ok_lem}
 use Rattle.chart_opening.specs.declared.Refusal.{Refusal}
-use Rattle.chart_opening.specs.declared.Verdict.{Verdict}
-use Rattle.chart_opening.specs.declared.Verdict.TheVariants.{Accepted, Refused}
+use Rattle.chart_opening.specs.Verdict.{Verdict}
 use Rattle.chart_opening.proofs.Header.{holds}
 use Rattle.eval_values.specs.declared.Values.{Values}
 use Rattle.eval_values.specs.Values.{row_of}
@@ -29,8 +29,6 @@ use Rattle.calls.proofs.Refusals.{opening_none, figure_accepted}
 use Rattle.calls.proofs.Locality.{open_fresh, open_values_length, figure_local}
 use Rattle.calls.proofs.Alone.{carried_out}
 use Rattle.calls_readings.specs.Answers.{values_answer}
-use Rattle.calls_readings.specs.declared.ValuesAnswer.{ValuesAnswer}
-use Rattle.calls_readings.specs.declared.ValuesAnswer.TheVariants as OfValues
 use Rattle.print_lines.specs.Lines.{refusal_text}
 use Rattle.print_listing.specs.List.{limit, most_listed, met_text, values_afresh, totals_afresh, counts_afresh, afresh_text, chart_text, Filled, Tables, ScratchRoom}
 
@@ -48,19 +46,19 @@ module _ (b : List ℕ) (rs vs : List Float) (within : length b ≤ limit) (room
   opening_is = go (first_of (chart_conditions b)) refl
     where
       go : (q : Verdict) → first_of (chart_conditions b) ≡ q → opening (length rs) (length vs) b ≡ q
-      go Accepted e =
+      go (Ok tt) e =
           let n = few_objects b e within in
           opening_none (length rs) (length vs) b e (omega (arith, room.records_room)) (omega (arith, room.values_room))
-      go (Refused x) e = first_refused (chart_conditions b) _ x e
+      go (Err x) e = first_refused (chart_conditions b) _ x e
 
   text_by : Verdict → List ℕ
   text_by q = if_accepted q (afresh_text b) met_text
 
-  pub refused_text : (x : Refusal) (a : Verdict) → a ≡ Refused x → a ≡ open_answer (state b rs vs) → refusal_text (refusal_number x) (refusal_place x) ≡ chart_text b
+  pub refused_text : (x : Refusal) (a : Verdict) → a ≡ Err x → a ≡ open_answer (state b rs vs) → refusal_text (refusal_number x) (refusal_place x) ≡ chart_text b
   unfolding chart_text met_text if_accepted text_by
   refused_text x a g e = ap text_by (sym g ∙ (e ∙ opening_is))
 
-  module _ (a : Verdict) (g : a ≡ Accepted) (e : a ≡ open_answer (state b rs vs)) where
+  module _ (a : Verdict) (g : a ≡ Ok tt) (e : a ≡ open_answer (state b rs vs)) where
     opens : Opens b
     opens = sym (sym g ∙ (e ∙ opening_is))
 
@@ -98,7 +96,7 @@ module _ (b : List ℕ) (vs : List Float) (f : Filled b vs) where
   has_header = let k = holds b (header_ok_lem b f.opens) in omega (arith, k.objects, k.nested_in_lem, k.points_in)
 
   module _ (j : ℕ) (one : 1 ≤ j) (below : j < (layout_of b).n) where
-    not_refused : verdict_in (read_values j) (state b [] vs) ≡ Accepted
+    not_refused : verdict_in (read_values j) (state b [] vs) ≡ Ok tt
     unfolding verdict_in refusal read_conditions row_conditions first_of
     not_refused =
         let h : (layout_of b).n ≤ length vs / value_width = omega (arith, f.rows) in
@@ -108,11 +106,11 @@ module _ (b : List ℕ) (vs : List Float) (f : Filled b vs) where
     unfolding execute
     reading = ap (λ x. x.answer) (carried_out (read_values j) (state b [] vs) not_refused)
 
-    pub read_row : (v : Values) (a : ValuesAnswer) → a ≡ OfValues.Values v → values_answer a ≡ (outcome (read_values j) (state b [] vs)).answer
+    pub read_row : (v : Values) (a : Result Values Refusal) → a ≡ Ok v → values_answer a ≡ (outcome (read_values j) (state b [] vs)).answer
         → row_of v ≡ row value_width vs j
     read_row v a g e = let q : values_are (row_of v) ≡ values_are (row value_width vs j) = ap values_answer (sym g) ∙ (e ∙ reading) in cc
 
-    pub read_carried_out : (x : Refusal) (a : ValuesAnswer) → a ≡ OfValues.Refused x → values_answer a ≡ (outcome (read_values j) (state b [] vs)).answer → ⊥
+    pub read_carried_out : (x : Refusal) (a : Result Values Refusal) → a ≡ Err x → values_answer a ≡ (outcome (read_values j) (state b [] vs)).answer → ⊥
     read_carried_out x a g e =
         let q : refused x ≡ values_are (row value_width vs j) = ap values_answer (sym g) ∙ (e ∙ reading) in
         let z : ◌≡◌ {A = ℕ} 0 1 = cc in
@@ -125,14 +123,14 @@ module _ (b : List ℕ) (vs : List Float) (f : Filled b vs) where
         rw (le-ltb (length x.aim) 8192 room.aim_room, le-ltb (length x.aim_no_sliders) 8192 room.no_sliders_room, le-ltb (length x.speed) 8192 room.speed_room, le-ltb (length x.flashlight) 8192 room.flashlight_room)
 
     -- a figure whose own conditions pass is not refused, and is the one worked out afresh
-    worked_out : (g : Figure) → first_of (asked_conditions g (layout_of b).n) ≡ Accepted
+    worked_out : (g : Figure) → first_of (asked_conditions g (layout_of b).n) ≡ Ok tt
         → (outcome (figure g (lengths x)) (state b [] vs)).answer ≡ figure_is (fresh_figure g (settings_of b) b)
     unfolding verdict_in execute
     worked_out g passes =
         ap (λ y. y.answer) (carried_out (figure g (lengths x)) (state b [] vs) ((figure_accepted g (lengths x) 0 (length vs) b).1 (f.opens, f.rows, long, passes)))
         ∙ ap figure_is (figure_local g (settings_of b) b (row value_width vs) (values_afresh b) passes f.values)
 
-    pub figure_carried_out : (g : Figure) → first_of (asked_conditions g (layout_of b).n) ≡ Accepted
+    pub figure_carried_out : (g : Figure) → first_of (asked_conditions g (layout_of b).n) ≡ Ok tt
         → (y : Refusal) → refused y ≡ (outcome (figure g (lengths x)) (state b [] vs)).answer → ⊥
     figure_carried_out g passes y e =
         let q : refused y ≡ figure_is (fresh_figure g (settings_of b) b) = e ∙ worked_out g passes in

@@ -1,4 +1,5 @@
 -- The lines of places one by one, and how long a listing is at most. Assumes nothing.
+use Rattle.std.specs.Prelude.{Ok, Err}
 use Prim.Native.Nat.{ℕ, zero, suc, ◌+◌, ◌-◌, ◌*◌, ◌≤◌, ◌<◌}
 use native.Mathlib.Omega.{arith}
 use mathlib.Core.Path.{◌≡◌, refl, sym, ap, ◌∙◌}
@@ -16,8 +17,7 @@ use Rattle.print_lines.specs.Lines.{place_text, totals_text, counts_text, count_
 use Rattle.print_lines.specs.Lengths.{refusal_length, count-length, place_length, totals_length, counts_length}
 use Rattle.eval_values.specs.Laws.{values_width}
 use Rattle.chart_opening.specs.Conditions.{refusal_number, refusal_place, first_of, if_accepted, chart_conditions}
-use Rattle.chart_opening.specs.declared.Verdict.{Verdict}
-use Rattle.chart_opening.specs.declared.Verdict.TheVariants.{Accepted, Refused}
+use Rattle.chart_opening.specs.Verdict.{Verdict}
 use Rattle.calls.specs.Afresh.{fresh_values}
 use Rattle.print_listing.specs.List.{limit, beyond_text, met_text, places_text, opened_text, values_afresh, totals_afresh, counts_afresh, afresh_text, chart_text, list_text, most_listed, Filled}
 use Rattle.print_listing.proofs.Calls.{few_objects}
@@ -83,8 +83,8 @@ list_length b = go (ltb limit (length b)) refl (first_of (chart_conditions b)) r
     go : (t : Bool) → ltb limit (length b) ≡ t → (q : Verdict) → first_of (chart_conditions b) ≡ q
         → length (cond t (refusal_text 7 0) (if_accepted q (afresh_text b) (λ r. refusal_text (refusal_number r) (refusal_place r)))) ≤ 65536
     go true e q o = omega (arith, refusal_length 7 0)
-    go false e Accepted o = afresh_length b (few_objects b o (ltb-false limit (length b) e))
-    go false e (Refused r) o = omega (arith, refusal_length (refusal_number r) (refusal_place r))
+    go false e (Ok tt) o = afresh_length b (few_objects b o (ltb-false limit (length b) e))
+    go false e (Err r) o = omega (arith, refusal_length (refusal_number r) (refusal_place r))
 
 -- so that a listing at the start of such a buffer stands there whole
 pub listed : (b : List ℕ) {out out' : List ℕ} {end : ℕ} → Puts (list_text b) out 0 out' end → 65536 ≤ length out

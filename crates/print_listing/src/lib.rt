@@ -8,9 +8,7 @@ ghost use Rattle.chart_opening.specs.Header.{layout_of};
 ghost use Rattle.print_lines.specs.Lines.{place_text, totals_text, counts_text};
 ghost use Rattle.print_listing.specs.List.{limit, places_text, totals_afresh, counts_afresh, afresh_text, chart_text, list_text, Filled, Tables, ScratchRoom};
 
-use calls_figures::{CountsAnswer, TotalsAnswer};
-use calls_readings::ValuesAnswer;
-use chart_opening::{Refusal, Verdict};
+use chart_opening::Refusal;
 
 // The longest chart that is listed, in bytes.
 const LIMIT: usize = 32768;
@@ -31,8 +29,8 @@ fn put_place(out: &mut [u8], at: usize, chart: &[u8], values: &[f64], j: usize) 
     ensures { Puts (place_text j (row 5 values.now j)) out.old at out.new result }
 {
     match calls_readings::read_values(chart, values, j) {
-        ValuesAnswer::Refused(r) => print_lines::put_refusal(out, at, r),
-        ValuesAnswer::Values(v) => print_lines::put_values(out, at, j, v),
+        Err(r) => print_lines::put_refusal(out, at, r),
+        Ok(v) => print_lines::put_values(out, at, j, v),
     }
 }
 
@@ -66,8 +64,8 @@ fn put_totals(
     ensures { Puts (totals_text (totals_afresh chart.now)) out.old at out.new result }
 {
     match calls_figures::totals(chart, values, aim, aim_no_sliders, speed, flashlight) {
-        TotalsAnswer::Refused(r) => print_lines::put_refusal(out, at, r),
-        TotalsAnswer::Totals(t) => print_lines::put_totals(out, at, t),
+        Err(r) => print_lines::put_refusal(out, at, r),
+        Ok(t) => print_lines::put_totals(out, at, t),
     }
 }
 
@@ -87,8 +85,8 @@ fn put_counts(
     ensures { Puts (counts_text (counts_afresh chart.now)) out.old at out.new result }
 {
     match calls_figures::counts(chart, values, aim, aim_no_sliders, speed, flashlight) {
-        CountsAnswer::Refused(r) => print_lines::put_refusal(out, at, r),
-        CountsAnswer::Counts(c) => print_lines::put_counts(out, at, c),
+        Err(r) => print_lines::put_refusal(out, at, r),
+        Ok(c) => print_lines::put_counts(out, at, c),
     }
 }
 
@@ -147,8 +145,8 @@ fn put_within(
     ensures { Puts (chart_text chart.now) out.old 0 out.new result }
 {
     match calls_editor::open(chart, records, values) {
-        Verdict::Refused(r) => print_lines::put_refusal(out, 0, r),
-        Verdict::Accepted => put_opened(out, chart, values, aim, aim_no_sliders, speed, flashlight),
+        Err(r) => print_lines::put_refusal(out, 0, r),
+        Ok(()) => put_opened(out, chart, values, aim, aim_no_sliders, speed, flashlight),
     }
 }
 

@@ -5,8 +5,7 @@
 
 ghost use Rattle.std.specs.Prelude.{◌≤◌, length};
 
-use calls_figures::RatingsAnswer;
-use chart_opening::{Refusal, Verdict};
+use chart_opening::Refusal;
 use skills_rating::Mods;
 use skills_stars::{Asked, Ratings};
 
@@ -73,8 +72,8 @@ fn put_opened(out: &mut [u8], chart: &[u8], values: &[f64], asked: Asked) -> usi
         &mut speed[..],
         &mut flashlight[..],
     ) {
-        RatingsAnswer::Refused(r) => print_lines::put_refusal(out, 0, r),
-        RatingsAnswer::Ratings(r) => put_ratings(out, r),
+        Err(r) => print_lines::put_refusal(out, 0, r),
+        Ok(r) => put_ratings(out, r),
     }
 }
 
@@ -86,8 +85,8 @@ fn put_chart(out: &mut [u8], chart: &[u8], asked: Asked) -> usize {
     let mut records = [0.0f64; RECORDS];
     let mut values = [0.0f64; VALUES];
     match calls_editor::open(chart, &mut records[..], &mut values[..]) {
-        Verdict::Refused(r) => print_lines::put_refusal(out, 0, r),
-        Verdict::Accepted => put_opened(out, chart, &values[..], asked),
+        Err(r) => print_lines::put_refusal(out, 0, r),
+        Ok(()) => put_opened(out, chart, &values[..], asked),
     }
 }
 

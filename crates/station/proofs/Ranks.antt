@@ -1,4 +1,5 @@
 -- A ranking with too few numbers, and with enough. Assumes nothing.
+use Rattle.std.specs.Prelude.{Ok, Err}
 use Prim.Native.Nat.{ℕ, suc, ◌≤◌, ◌<◌}
 use mathlib.Core.Path.{◌≡◌, refl, sym, ap, ◌∙◌}
 use mathlib.Core.Bool.{Bool, true, false, ◌&&◌, cond, true≢false}
@@ -8,8 +9,7 @@ use lib.Dec.{ltb}
 use lib.ListN.{length, get_or}
 use borrow.Author.Tests.{ltb-true, ltb-false}
 use Rattle.chart_opening.specs.Conditions.{first_of, if_accepted}
-use Rattle.chart_opening.specs.declared.Verdict.{Verdict}
-use Rattle.chart_opening.specs.declared.Verdict.TheVariants.{Accepted, Refused}
+use Rattle.chart_opening.specs.Verdict.{Verdict}
 use Rattle.skills_stars.specs.declared.Asked.{Asked}
 use Rattle.calls.specs.Conditions.{Lengths, lengths}
 use Rattle.pack_order.specs.Listing.{chart_at}
@@ -18,7 +18,7 @@ use Rattle.pack.proofs.Checks.{each, accepted, lies, rateable}
 use Rattle.station.specs.Codes.{no_scratch, rank_verdict_into, rank_into}
 
 -- without scratch no chart is rated
-none_accepted : (asked : Asked) (r v : ℕ) (pack list : List ℕ) → 0 < length list → rank_verdict asked r v no_scratch pack list ≡ Accepted → ⊥
+none_accepted : (asked : Asked) (r v : ℕ) (pack list : List ℕ) → 0 < length list → rank_verdict asked r v no_scratch pack list ≡ Ok tt → ⊥
 none_accepted asked r v pack list h e =
     let o = get_or list 0 0 in
     let p = each (listed_verdict asked r v no_scratch pack) list (accepted asked r v no_scratch pack list e).1 0 h in
@@ -42,9 +42,9 @@ module _ (asked : Asked) (pack : List ℕ) (x : Buffers) where
       go : (cramped ≡ true) × (ltb 0 (length x.list) ≡ true) → (w : Verdict) → w ≡ verdict_with no_scratch
           → (w ≡ verdict_with (cond cramped no_scratch (lengths x.scratch)))
           × (x ≡ if_accepted (verdict_with (cond cramped no_scratch (lengths x.scratch))) (ranked_buffers asked pack x) (λ r. x))
-      go (c, h) Accepted e = absurd (none_accepted asked (length x.tables.records) (length x.tables.values) pack x.list (ltb-true 0 (length x.list) h) (sym e))
-      go (c, h) (Refused q) e =
-          let f : Refused q ≡ verdict_with (cond cramped no_scratch (lengths x.scratch)) = e ∙ sym (ap (λ (b : Bool). verdict_with (cond b no_scratch (lengths x.scratch))) c) in
+      go (c, h) (Ok tt) e = absurd (none_accepted asked (length x.tables.records) (length x.tables.values) pack x.list (ltb-true 0 (length x.list) h) (sym e))
+      go (c, h) (Err q) e =
+          let f : Err q ≡ verdict_with (cond cramped no_scratch (lengths x.scratch)) = e ∙ sym (ap (λ (b : Bool). verdict_with (cond b no_scratch (lengths x.scratch))) c) in
           (f, ap (λ (v : Verdict). if_accepted v (ranked_buffers asked pack x) (λ r. x)) f)
 
   empty : (list : List ℕ) → ltb 0 (length list) ≡ false → (r v : ℕ) (l m : Lengths) → rank_verdict asked r v l pack list ≡ rank_verdict asked r v m pack list

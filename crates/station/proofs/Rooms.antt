@@ -1,4 +1,5 @@
 -- A call that is carried out had room for what it writes; one that is refused writes nothing. Assumes nothing.
+use Rattle.std.specs.Prelude.{Ok, Err}
 use Prim.Native.Nat.{ℕ, ◌<◌, ◌≤◌}
 use mathlib.Core.Path.{◌≡◌, refl, sym, ap, ◌∙◌}
 use mathlib.Core.Bool.{Bool, true, false, cond, ◌||◌}
@@ -15,8 +16,7 @@ use Rattle.chart_opening.specs.Conditions.{refusal_number, first_of, if_accepted
 use Rattle.chart_opening.specs.Accepted.{refuses}
 use Rattle.chart_opening.specs.declared.Refusal.{Refusal}
 use Rattle.chart_opening.specs.declared.Refusal.TheVariants.{Header, Setting, Object, Entries, Order, Length, Table, Place, Room, NotFinite}
-use Rattle.chart_opening.specs.declared.Verdict.{Verdict}
-use Rattle.chart_opening.specs.declared.Verdict.TheVariants.{Accepted, Refused}
+use Rattle.chart_opening.specs.Verdict.{Verdict}
 use Rattle.chart_opening.specs.Header.{frame_ok, header_ok, settings_of}
 use Rattle.osu_records.specs.Rows.{record_at}
 use Rattle.eval_rhythm.specs.Comparisons.{comparisons_at_place, most_comparisons}
@@ -75,29 +75,29 @@ module _ (need room : ℕ) (a : Operation) (st : State) where
       go false h f = ltb-false room need h
 
 module _ (t : List ℕ) (need room : ℕ) (a : Operation) (st : State) where
-  pub into_short_as : room < need → (r : Refusal) → Refused r ≡ second_verdict t st.chart (Refused Table) → read_into_as t need room a st ≡ refuse st r
+  pub into_short_as : room < need → (r : Refusal) → Err r ≡ second_verdict t st.chart (Err Table) → read_into_as t need room a st ≡ refuse st r
   unfolding read_into_as if_accepted
   into_short_as h r e =
-      ap (λ (x : Bool). cond x (if_accepted (second_verdict t st.chart (Refused Table)) (outcome_as t a st) (refuse st)) (outcome_as t a st)) (lt-ltb room need h)
+      ap (λ (x : Bool). cond x (if_accepted (second_verdict t st.chart (Err Table)) (outcome_as t a st) (refuse st)) (outcome_as t a st)) (lt-ltb room need h)
       ∙ ap (λ (v : Verdict). if_accepted v (outcome_as t a st) (refuse st)) (sym e)
 
   pub into_long_as : need ≤ room → read_into_as t need room a st ≡ outcome_as t a st
   unfolding read_into_as
   into_long_as h = rw (le-ltb room need h)
 
-  no_room_refuses : (v : Verdict) → second_verdict t st.chart (Refused Table) ≡ v → v ≡ Accepted → ⊥
-  no_room_refuses v e f = refuses (second_accepted t st.chart (Refused Table) (e ∙ f)).then
+  no_room_refuses : (v : Verdict) → second_verdict t st.chart (Err Table) ≡ v → v ≡ Ok tt → ⊥
+  no_room_refuses v e f = refuses (second_accepted t st.chart (Err Table) (e ∙ f)).then
 
   pub into_room_as : (x : Answer) → ((r : Refusal) → refused r ≡ x → ⊥) → x ≡ (read_into_as t need room a st).answer → need ≤ room
   unfolding read_into_as refuse if_accepted
   into_room_as x other e = go (ltb room need) refl e
     where
-      by : (v : Verdict) → second_verdict t st.chart (Refused Table) ≡ v → x ≡ (if_accepted v (outcome_as t a st) (refuse st)).answer → ⊥
-      by Accepted q f = no_room_refuses Accepted q refl
-      by (Refused r) q f = other r (sym f)
+      by : (v : Verdict) → second_verdict t st.chart (Err Table) ≡ v → x ≡ (if_accepted v (outcome_as t a st) (refuse st)).answer → ⊥
+      by (Ok tt) q f = no_room_refuses (Ok tt) q refl
+      by (Err r) q f = other r (sym f)
 
-      go : (s : Bool) → ltb room need ≡ s → x ≡ (cond s (if_accepted (second_verdict t st.chart (Refused Table)) (outcome_as t a st) (refuse st)) (outcome_as t a st)).answer → need ≤ room
-      go true h f = absurd (by (second_verdict t st.chart (Refused Table)) refl f)
+      go : (s : Bool) → ltb room need ≡ s → x ≡ (cond s (if_accepted (second_verdict t st.chart (Err Table)) (outcome_as t a st) (refuse st)) (outcome_as t a st)).answer → need ≤ room
+      go true h f = absurd (by (second_verdict t st.chart (Err Table)) refl f)
       go false h f = ltb-false room need h
 
 pub no_record : (x : Record) (r : Refusal) → refused r ≡ record_is x → ⊥
@@ -118,10 +118,10 @@ few_compared x n room k t st e =
   where
     go : (v : Verdict)
         → detail_is (rhythm_is x n) ≡ (if_accepted v (record { answer = (execute (read_detail rhythm k) (seen t st)).answer; leaves = st }) (refuse st)).answer → n ≤ most_comparisons
-    go Accepted f =
+    go (Ok tt) f =
         let m : n ≡ comparisons_at_place (object (seen t st).chart) (record_at (seen t st).records) k (settings_of (seen t st).chart).hit_window = cc in
         rw m (comparisons_bounded (object (seen t st).chart) (record_at (seen t st).records) k (settings_of (seen t st).chart).hit_window)
-    go (Refused r) f = absurd (no_detail (rhythm_is x n) r (sym f))
+    go (Err r) f = absurd (no_detail (rhythm_is x n) r (sym f))
 
 -- ---- Figures
 
@@ -136,8 +136,8 @@ module _ (t : List ℕ) (f : Figure) (cramped : Bool) (x : Scratch) (b : List �
   scratch_by v = if_accepted v (cleared x) (λ r. x)
 
   -- a figure is refused as its sums are
-  refused_sums : (short : Bool) (r : Refusal) → Refused r ≡ second_verdict t b (sum_verdict (under t b) (value_entries (length vs)) short)
-      → second_verdict t b (figure_verdict f (under t b) (value_entries (length vs)) short) ≡ Refused r
+  refused_sums : (short : Bool) (r : Refusal) → Err r ≡ second_verdict t b (sum_verdict (under t b) (value_entries (length vs)) short)
+      → second_verdict t b (figure_verdict f (under t b) (value_entries (length vs)) short) ≡ Err r
   unfolding figure_conditions
   refused_sums short r e =
       ap (second_verdict t b) (first_append (sum_conditions (under t b) (value_entries (length vs)) short) (asked_conditions f (count (under t b))))
@@ -145,7 +145,7 @@ module _ (t : List ℕ) (f : Figure) (cramped : Bool) (x : Scratch) (b : List �
       ∙ (ap (λ (v : Verdict). first_of (v ∷ asked_conditions f (count (under t b)))) (sym e) ∙ refused_first r (asked_conditions f (count (under t b)))))
 
   -- with a cramped answer
-  pub figure_short : cramped ≡ true → (r : Refusal) → Refused r ≡ second_verdict t b (sum_verdict (under t b) (value_entries (length vs)) true)
+  pub figure_short : cramped ≡ true → (r : Refusal) → Err r ≡ second_verdict t b (sum_verdict (under t b) (value_entries (length vs)) true)
       → (figure_into_as t f cramped x (state b [] vs) ≡ outcome_with (refused r) b [] vs) × (scratch_into_as t f cramped x (state b [] vs) ≡ x)
   unfolding figure_into_as scratch_into_as into_verdict_as outcome_by scratch_by asked if_accepted refuse
   figure_short h r e =
@@ -161,12 +161,12 @@ module _ (t : List ℕ) (f : Figure) (cramped : Bool) (x : Scratch) (b : List �
       (ap outcome_by q, ap scratch_by q)
 
   -- sums that are too short are never accepted
-  never_short : sum_verdict (under t b) (value_entries (length vs)) true ≡ Accepted → ⊥
+  never_short : sum_verdict (under t b) (value_entries (length vs)) true ≡ Ok tt → ⊥
   never_short e = absurd (go _ refl)
     where
       go : (w : Verdict) → open_verdict (under t b) (value_entries (length vs)) ≡ w → ⊥
-      go Accepted o = refuses (sym (sum_passed (under t b) (value_entries (length vs)) true o) ∙ e)
-      go (Refused r) o = refuses (sym (sum_refused (under t b) (value_entries (length vs)) true r o) ∙ e)
+      go (Ok tt) o = refuses (sym (sum_passed (under t b) (value_entries (length vs)) true o) ∙ e)
+      go (Err r) o = refuses (sym (sum_refused (under t b) (value_entries (length vs)) true r o) ∙ e)
 
   pub figure_room : (a : Amount) → figure_is a ≡ (figure_into_as t f cramped x (state b [] vs)).answer → cramped ≡ false
   unfolding figure_into_as into_verdict_as if_accepted refuse
@@ -180,8 +180,8 @@ module _ (t : List ℕ) (f : Figure) (cramped : Bool) (x : Scratch) (b : List �
 
       told : (v : Verdict) → second_verdict t b (sum_verdict (under t b) (value_entries (length vs)) true) ≡ v
           → figure_is a ≡ by (second_verdict t b (figure_verdict f (under t b) (value_entries (length vs)) true)) → ⊥
-      told Accepted q g = never_short (second_accepted t b _ q).then
-      told (Refused r) q g = no_figure r (sym (g ∙ ap by (refused_sums true r (sym q))))
+      told (Ok tt) q g = never_short (second_accepted t b _ q).then
+      told (Err r) q g = no_figure r (sym (g ∙ ap by (refused_sums true r (sym q))))
 
       go : (s : Bool) → cramped ≡ s → cramped ≡ false
       go true h =
@@ -204,11 +204,11 @@ header_short : (b : List ℕ) → length b < header_size → header_ok b ≡ fal
 unfolding header_ok frame_ok
 header_short b h = simp (lt-leb header_size (length b) h)
 
-figure_header : (f : Figure) (b : List ℕ) (entries : ℕ) (short : Bool) → header_ok b ≡ false → figure_verdict f b entries short ≡ Refused Header
+figure_header : (f : Figure) (b : List ℕ) (entries : ℕ) (short : Bool) → header_ok b ≡ false → figure_verdict f b entries short ≡ Err Header
 unfolding figure_conditions sum_conditions chart_conditions first_of
 figure_header f b entries short e = simp e
 
-by_refusal : (o : Outcome) (st : State) (q : Refusal) → if_accepted (Refused q) o (refuse st) ≡ refuse st q
+by_refusal : (o : Outcome) (st : State) (q : Refusal) → if_accepted (Err q) o (refuse st) ≡ refuse st q
 unfolding if_accepted
 by_refusal o st q = refl
 
@@ -232,14 +232,14 @@ module _ (need room : ℕ) (a : Operation) (st : State) where
       by : Verdict → Outcome
       by v = if_accepted v (outcome_as t a st) (refuse st)
 
-      refused_by : (q : Refusal) → by (Refused q) ≡ refuse st q
+      refused_by : (q : Refusal) → by (Err q) ≡ refuse st q
       refused_by q = by_refusal (outcome_as t a st) st q
 
-      own_room : (x : Bool) → header_ok st.chart ≡ x → if_accepted (second_verdict t st.chart (Refused Table)) (outcome_as t a st) (refuse st) ≡ refuse st (no_room st.chart)
+      own_room : (x : Bool) → header_ok st.chart ≡ x → if_accepted (second_verdict t st.chart (Err Table)) (outcome_as t a st) (refuse st) ≡ refuse st (no_room st.chart)
       own_room false e =
-          ap by (second_header t st.chart (Refused Table) (ap header_ok (under_own st.chart h) ∙ e)) ∙ (refused_by Header ∙ ap (λ (y : Bool). refuse st (cond y Table Header)) (sym e))
+          ap by (second_header t st.chart (Err Table) (ap header_ok (under_own st.chart h) ∙ e)) ∙ (refused_by Header ∙ ap (λ (y : Bool). refuse st (cond y Table Header)) (sym e))
       own_room true e =
-          ap by (second_passed t st.chart (Refused Table) (ap header_ok (under_own st.chart h) ∙ e) (eq-eqb (length t) settings_size (own_length st.chart h)))
+          ap by (second_passed t st.chart (Err Table) (ap header_ok (under_own st.chart h) ∙ e) (eq-eqb (length t) settings_size (own_length st.chart h)))
           ∙ (refused_by Table ∙ ap (λ (y : Bool). refuse st (cond y Table Header)) (sym e))
 
 module _ (f : Figure) (cramped : Bool) (x : Scratch) (b : List ℕ) (vs : List Float) where

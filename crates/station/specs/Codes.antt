@@ -1,13 +1,12 @@
 -- A call's answer as one number, and the numbers that it writes. Definitions only.
-use Rattle.std.specs.Prelude.{List, [], ◌∷◌, Bool, cond, ◌||◌, ℕ, ◌+◌, ◌*◌, ◌/◌, ◌%◌, ltb, eqb, Float, pos, length, get_or}
+use Rattle.std.specs.Prelude.{List, [], ◌∷◌, Bool, cond, ◌||◌, ℕ, ◌+◌, ◌*◌, ◌/◌, ◌%◌, ltb, eqb, Float, pos, length, get_or, Ok, Err}
 use Rattle.std.specs.Float.Ieee as Ieee
 use Rattle.std.specs.Float.{nan, binary64}
 use Rattle.chart_opening.specs.Header.{header_ok}
 use Rattle.chart_opening.specs.Conditions.{refusal_number, refusal_place, if_accepted}
 use Rattle.chart_opening.specs.declared.Refusal.{Refusal}
 use Rattle.chart_opening.specs.declared.Refusal.TheVariants.{Header, Table}
-use Rattle.chart_opening.specs.declared.Verdict.{Verdict}
-use Rattle.chart_opening.specs.declared.Verdict.TheVariants.{Accepted, Refused}
+use Rattle.chart_opening.specs.Verdict.{Verdict}
 use Rattle.num_floats.specs.Numbers.{zero64, one64, two64, three64}
 use Rattle.osu_records.specs.Rows.{row_of}
 use Rattle.eval_aim.specs.declared.AimRule.{AimRule}
@@ -35,8 +34,8 @@ code_of r = refusal_number r * place_span + refusal_place r % place_span
 
 -- of opening, 0 where it is carried out
 abbrev pub verdict_code : Verdict → ℕ
-verdict_code Accepted = 0
-verdict_code (Refused r) = code_of r
+verdict_code (Ok tt) = 0
+verdict_code (Err r) = code_of r
 
 -- of the other calls
 abbrev pub answer_code : Answer → ℕ
@@ -130,7 +129,7 @@ scratch_into f cramped x st = if_accepted (into_verdict f cramped x st) (cleared
 
 unfoldable pub read_into_as : List ℕ → ℕ → ℕ → Operation → State → Outcome
 read_into_as t need room a st =
-    cond (ltb room need) (if_accepted (second_verdict t st.chart (Refused Table)) (outcome_as t a st) (refuse st)) (outcome_as t a st)
+    cond (ltb room need) (if_accepted (second_verdict t st.chart (Err Table)) (outcome_as t a st) (refuse st)) (outcome_as t a st)
 
 unfoldable pub into_verdict_as : List ℕ → Figure → Bool → Scratch → State → Verdict
 into_verdict_as t f cramped x st =

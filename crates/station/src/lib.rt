@@ -3,11 +3,10 @@
 // player's, with 48 bytes of settings; the first player's settings are the header's. An edit whose name ends in both is for both players.
 #![tactic(auto)]
 
-ghost use Rattle.std.specs.Prelude.{◌≡◌, true, [], ◌/◌, ◌≤◌, ltb, length, get_or};
+ghost use Rattle.std.specs.Prelude.{◌≡◌, true, [], ◌/◌, ◌≤◌, ltb, length, get_or, Err};
 ghost use Rattle.std.specs.Float.{nan};
 ghost use Rattle.num_tables.specs.Parts.{put};
 ghost use Rattle.chart_opening.specs.declared.Refusal.TheVariants.{Table};
-ghost use Rattle.chart_opening.specs.declared.Verdict.TheVariants.{Refused};
 ghost use Rattle.chart_players.specs.Second.{under, second_verdict};
 ghost use Rattle.calls.specs.Conditions as ops;
 ghost use Rattle.calls.specs.Afresh as kinds;
@@ -24,14 +23,16 @@ ghost use Rattle.station.specs.Codes.{no_room, read_into, figure_into, scratch_i
 ghost use Rattle.station.specs.Codes.{numbers_width, rank_verdict_into, rank_into};
 ghost use Rattle.pack.specs.Pack.{buffers, tables};
 
-use calls_figures::{CountsAnswer, RatingsAnswer, TotalsAnswer};
-use calls_readings::{AimAnswer, AimDetail, RecordAnswer, RhythmAnswer, ValuesAnswer};
-use chart_opening::{Refusal, Verdict};
+use calls_readings::AimDetail;
+use chart_opening::Refusal;
 use eval_aim::AimRule;
 use skills::Skills;
 use skills_counts::ObjectCounts;
 use skills_rating::Mods;
 use skills_stars::{Asked, Ratings};
+use eval_values::Values;
+use eval_rhythm::Counted;
+use osu_difficulty_object::OsuDifficultyObject;
 
 // How many places a code tells apart, and how many totals, counts and ratings there are.
 const PLACE_SPAN: usize = 0x1_0000_0000;
@@ -70,8 +71,8 @@ pub extern "C" fn difficulty_open_as(
         ≡ open_leaves_as settings.now (state chart.now records.old values.old) }
 {
     match calls_editor::open_as(chart, settings, records, values) {
-        Verdict::Refused(r) => code(r),
-        Verdict::Accepted => 0,
+        Err(r) => code(r),
+        Ok(()) => 0,
     }
 }
 
@@ -104,8 +105,8 @@ pub extern "C" fn difficulty_replace(
         ≡ (outcome (ops.replace place object.now) (state chart.old records.old values.old)).leaves }
 {
     match calls_editor::replace(chart, place, object, records, values) {
-        Verdict::Refused(r) => code(r),
-        Verdict::Accepted => 0,
+        Err(r) => code(r),
+        Ok(()) => 0,
     }
 }
 
@@ -137,8 +138,8 @@ pub extern "C" fn difficulty_replace_both(
         second_records,
         second_values,
     ) {
-        Verdict::Refused(r) => code(r),
-        Verdict::Accepted => 0,
+        Err(r) => code(r),
+        Ok(()) => 0,
     }
 }
 
@@ -158,8 +159,8 @@ pub extern "C" fn difficulty_insert(
         ≡ (outcome (ops.insert place object.now) (state chart.old records.old values.old)).leaves }
 {
     match calls_editor::insert(chart, place, object, records, values) {
-        Verdict::Refused(r) => code(r),
-        Verdict::Accepted => 0,
+        Err(r) => code(r),
+        Ok(()) => 0,
     }
 }
 
@@ -191,8 +192,8 @@ pub extern "C" fn difficulty_insert_both(
         second_records,
         second_values,
     ) {
-        Verdict::Refused(r) => code(r),
-        Verdict::Accepted => 0,
+        Err(r) => code(r),
+        Ok(()) => 0,
     }
 }
 
@@ -210,8 +211,8 @@ pub extern "C" fn difficulty_remove(
         ≡ (outcome (ops.remove place) (state chart.old records.old values.old)).leaves }
 {
     match calls_editor::remove(chart, place, records, values) {
-        Verdict::Refused(r) => code(r),
-        Verdict::Accepted => 0,
+        Err(r) => code(r),
+        Ok(()) => 0,
     }
 }
 
@@ -241,8 +242,8 @@ pub extern "C" fn difficulty_remove_both(
         second_records,
         second_values,
     ) {
-        Verdict::Refused(r) => code(r),
-        Verdict::Accepted => 0,
+        Err(r) => code(r),
+        Ok(()) => 0,
     }
 }
 
@@ -258,7 +259,7 @@ fn no_room(chart: &[u8]) -> Refusal
 
 // Why a reading of the second player is refused whose answer has no room: 7 right after 1 and settings of another length.
 fn no_room_as(chart: &[u8], settings: &[u8]) -> Refusal
-    ensures { Refused result ≡ second_verdict settings.now chart.now (Refused Table) }
+    ensures { Err result ≡ second_verdict settings.now chart.now (Err Table) }
 {
     if !chart_players::header_ok_as(chart, settings) {
         return Refusal::Header;
@@ -276,12 +277,12 @@ fn record_into_as(
     records: &[f64],
     place: usize,
     room: usize,
-) -> RecordAnswer
+) -> Result<OsuDifficultyObject, Refusal>
     ensures { outcome_with (record_answer result) chart.now records.now []
         ≡ read_into_as settings.now 16 room (ops.read_record place) (state chart.now records.now []) }
 {
     if room < calls::RECORD_WIDTH {
-        return RecordAnswer::Refused(no_room_as(chart, settings));
+        return Err(no_room_as(chart, settings));
     }
     calls_readings::read_record_as(chart, settings, records, place)
 }
@@ -304,8 +305,8 @@ pub extern "C" fn difficulty_read_record_as(
         out.old }
 {
     match record_into_as(chart, settings, records, place, out.len()) {
-        RecordAnswer::Refused(r) => code(r),
-        RecordAnswer::Record(x) => {
+        Err(r) => code(r),
+        Ok(x) => {
             osu_records::put_record(out, 0, x);
             0
         }
@@ -313,12 +314,12 @@ pub extern "C" fn difficulty_read_record_as(
 }
 
 // The record of a place, for an answer with as much room.
-fn record_into(chart: &[u8], records: &[f64], place: usize, room: usize) -> RecordAnswer
+fn record_into(chart: &[u8], records: &[f64], place: usize, room: usize) -> Result<OsuDifficultyObject, Refusal>
     ensures { outcome_with (record_answer result) chart.now records.now []
         ≡ read_into 16 room (ops.read_record place) (state chart.now records.now []) }
 {
     if room < calls::RECORD_WIDTH {
-        return RecordAnswer::Refused(no_room(chart));
+        return Err(no_room(chart));
     }
     calls_readings::read_record(chart, records, place)
 }
@@ -340,8 +341,8 @@ pub extern "C" fn difficulty_read_record(
         out.old }
 {
     match record_into(chart, records, place, out.len()) {
-        RecordAnswer::Refused(r) => code(r),
-        RecordAnswer::Record(x) => {
+        Err(r) => code(r),
+        Ok(x) => {
             osu_records::put_record(out, 0, x);
             0
         }
@@ -355,12 +356,12 @@ fn values_into_as(
     values: &[f64],
     place: usize,
     room: usize,
-) -> ValuesAnswer
+) -> Result<Values, Refusal>
     ensures { outcome_with (values_answer result) chart.now [] values.now
         ≡ read_into_as settings.now 5 room (ops.read_values place) (state chart.now [] values.now) }
 {
     if room < calls::VALUE_WIDTH {
-        return ValuesAnswer::Refused(no_room_as(chart, settings));
+        return Err(no_room_as(chart, settings));
     }
     calls_readings::read_values_as(chart, settings, values, place)
 }
@@ -383,8 +384,8 @@ pub extern "C" fn difficulty_read_values_as(
         out.old }
 {
     match values_into_as(chart, settings, values, place, out.len()) {
-        ValuesAnswer::Refused(r) => code(r),
-        ValuesAnswer::Values(v) => {
+        Err(r) => code(r),
+        Ok(v) => {
             eval_values::put_values(out, 0, v);
             0
         }
@@ -392,12 +393,12 @@ pub extern "C" fn difficulty_read_values_as(
 }
 
 // The values of a place, for an answer with as much room.
-fn values_into(chart: &[u8], values: &[f64], place: usize, room: usize) -> ValuesAnswer
+fn values_into(chart: &[u8], values: &[f64], place: usize, room: usize) -> Result<Values, Refusal>
     ensures { outcome_with (values_answer result) chart.now [] values.now
         ≡ read_into 5 room (ops.read_values place) (state chart.now [] values.now) }
 {
     if room < calls::VALUE_WIDTH {
-        return ValuesAnswer::Refused(no_room(chart));
+        return Err(no_room(chart));
     }
     calls_readings::read_values(chart, values, place)
 }
@@ -418,8 +419,8 @@ pub extern "C" fn difficulty_read_values(
         out.old }
 {
     match values_into(chart, values, place, out.len()) {
-        ValuesAnswer::Refused(r) => code(r),
-        ValuesAnswer::Values(v) => {
+        Err(r) => code(r),
+        Ok(v) => {
             eval_values::put_values(out, 0, v);
             0
         }
@@ -433,12 +434,12 @@ fn aim_into_as(
     records: &[f64],
     place: usize,
     room: usize,
-) -> AimAnswer
+) -> Result<AimDetail, Refusal>
     ensures { outcome_with (aim_answer result) chart.now records.now []
         ≡ read_into_as settings.now aim_width room (ops.read_detail kinds.aim_parts place) (state chart.now records.now []) }
 {
     if room < AIM_WIDTH {
-        return AimAnswer::Refused(no_room_as(chart, settings));
+        return Err(no_room_as(chart, settings));
     }
     calls_readings::read_aim_parts_as(chart, settings, records, place)
 }
@@ -502,8 +503,8 @@ pub extern "C" fn difficulty_read_aim_parts_as(
         (state chart.now records.now [])).answer) out.old }
 {
     match aim_into_as(chart, settings, records, place, out.len()) {
-        AimAnswer::Refused(r) => code(r),
-        AimAnswer::Aim(d) => {
+        Err(r) => code(r),
+        Ok(d) => {
             put_aim(out, d);
             0
         }
@@ -536,12 +537,12 @@ fn rhythm_into_as(
     records: &[f64],
     place: usize,
     room: usize,
-) -> RhythmAnswer
+) -> Result<Counted, Refusal>
     ensures { outcome_with (rhythm_answer result) chart.now records.now []
         ≡ read_into_as settings.now rhythm_width room (ops.read_detail kinds.rhythm place) (state chart.now records.now []) }
 {
     if room < RHYTHM_WIDTH {
-        return RhythmAnswer::Refused(no_room_as(chart, settings));
+        return Err(no_room_as(chart, settings));
     }
     calls_readings::read_rhythm_as(chart, settings, records, place)
 }
@@ -562,8 +563,8 @@ pub extern "C" fn difficulty_read_rhythm_as(
         (state chart.now records.now [])).answer) out.old }
 {
     match rhythm_into_as(chart, settings, records, place, out.len()) {
-        RhythmAnswer::Refused(r) => code(r),
-        RhythmAnswer::Rhythm(c) => {
+        Err(r) => code(r),
+        Ok(c) => {
             out[0] = c.value;
             out[1] = c.comparisons as u32 as f64;
             0
@@ -592,12 +593,12 @@ pub extern "C" fn difficulty_read_rhythm(
 
 // Why a figure of the second player without room is refused.
 fn refuse_sums(chart: &[u8], settings: &[u8], entries: usize) -> Refusal
-    ensures { Refused result ≡ second_verdict settings.now chart.now
+    ensures { Err result ≡ second_verdict settings.now chart.now
         (sum_verdict (under settings.now chart.now) entries true) }
 {
     match chart_players::check_as(chart, settings, entries) {
-        Verdict::Refused(r) => r,
-        Verdict::Accepted => Refusal::Table,
+        Err(r) => r,
+        Ok(()) => Refusal::Table,
     }
 }
 
@@ -611,7 +612,7 @@ fn totals_into(
     speed: &mut [f64],
     flashlight: &mut [f64],
     cramped: bool,
-) -> TotalsAnswer
+) -> Result<Skills, Refusal>
     ensures answer { outcome_with (totals_answer result) chart.now [] values.now
         ≡ figure_into_as settings.now kinds.totals cramped
         (scratch_of aim.old aim_no_sliders.old speed.old flashlight.old)
@@ -622,7 +623,7 @@ fn totals_into(
         (state chart.now [] values.now) }
 {
     if cramped {
-        return TotalsAnswer::Refused(refuse_sums(
+        return Err(refuse_sums(
             chart,
             settings,
             values.len() / calls::VALUE_WIDTH,
@@ -685,8 +686,8 @@ pub extern "C" fn difficulty_totals_as(
         flashlight,
         out.len() < TOTALS_WIDTH,
     ) {
-        TotalsAnswer::Refused(r) => code(r),
-        TotalsAnswer::Totals(t) => {
+        Err(r) => code(r),
+        Ok(t) => {
             put_totals(out, t);
             0
         }
@@ -743,7 +744,7 @@ fn totals_to_into(
     speed: &mut [f64],
     flashlight: &mut [f64],
     cramped: bool,
-) -> TotalsAnswer
+) -> Result<Skills, Refusal>
     ensures answer { outcome_with (totals_answer result) chart.now [] values.now
         ≡ figure_into_as settings.now (kinds.totals_to m) cramped
         (scratch_of aim.old aim_no_sliders.old speed.old flashlight.old)
@@ -754,7 +755,7 @@ fn totals_to_into(
         (state chart.now [] values.now) }
 {
     if cramped {
-        return TotalsAnswer::Refused(refuse_sums(
+        return Err(refuse_sums(
             chart,
             settings,
             values.len() / calls::VALUE_WIDTH,
@@ -808,8 +809,8 @@ pub extern "C" fn difficulty_totals_to_as(
         flashlight,
         out.len() < TOTALS_WIDTH,
     ) {
-        TotalsAnswer::Refused(r) => code(r),
-        TotalsAnswer::Totals(t) => {
+        Err(r) => code(r),
+        Ok(t) => {
             put_totals(out, t);
             0
         }
@@ -890,8 +891,8 @@ pub extern "C" fn difficulty_totals_while_playing_as(
         speed,
         flashlight,
     ) {
-        Verdict::Refused(r) => code(r),
-        Verdict::Accepted => 0,
+        Err(r) => code(r),
+        Ok(()) => 0,
     }
 }
 
@@ -941,7 +942,7 @@ fn counts_into(
     speed: &mut [f64],
     flashlight: &mut [f64],
     cramped: bool,
-) -> CountsAnswer
+) -> Result<ObjectCounts, Refusal>
     ensures answer { outcome_with (counts_answer result) chart.now [] values.now
         ≡ figure_into_as settings.now kinds.counts cramped
         (scratch_of aim.old aim_no_sliders.old speed.old flashlight.old)
@@ -952,7 +953,7 @@ fn counts_into(
         (state chart.now [] values.now) }
 {
     if cramped {
-        return CountsAnswer::Refused(refuse_sums(
+        return Err(refuse_sums(
             chart,
             settings,
             values.len() / calls::VALUE_WIDTH,
@@ -1016,8 +1017,8 @@ pub extern "C" fn difficulty_counts_as(
         flashlight,
         out.len() < COUNTS_WIDTH,
     ) {
-        CountsAnswer::Refused(r) => code(r),
-        CountsAnswer::Counts(c) => {
+        Err(r) => code(r),
+        Ok(c) => {
             put_counts(out, c);
             0
         }
@@ -1107,7 +1108,7 @@ fn ratings_into(
     speed: &mut [f64],
     flashlight: &mut [f64],
     cramped: bool,
-) -> RatingsAnswer
+) -> Result<Ratings, Refusal>
     ensures answer { outcome_with (ratings_answer result) chart.now [] values.now
         ≡ figure_into_as settings.now (kinds.ratings asked) cramped
         (scratch_of aim.old aim_no_sliders.old speed.old flashlight.old)
@@ -1118,7 +1119,7 @@ fn ratings_into(
         (state chart.now [] values.now) }
 {
     if cramped {
-        return RatingsAnswer::Refused(refuse_sums(
+        return Err(refuse_sums(
             chart,
             settings,
             values.len() / calls::VALUE_WIDTH,
@@ -1190,8 +1191,8 @@ pub extern "C" fn difficulty_ratings_as(
         flashlight,
         cramped,
     ) {
-        RatingsAnswer::Refused(r) => code(r),
-        RatingsAnswer::Ratings(x) => {
+        Err(r) => code(r),
+        Ok(x) => {
             put_ratings(out, x);
             0
         }
@@ -1256,7 +1257,7 @@ fn join_into(
     speed: &mut [f64],
     flashlight: &mut [f64],
     cramped: bool,
-) -> Verdict
+) -> Result<(), Refusal>
     ensures answer { result ≡ rank_verdict_into asked cramped pack.now (buffers list.old
         (tables records.old values.old)
         (scratch_of aim.old aim_no_sliders.old speed.old flashlight.old)) }
@@ -1322,8 +1323,8 @@ pub extern "C" fn difficulty_join(
         flashlight,
         numbers.len() < NUMBERS_WIDTH,
     ) {
-        Verdict::Refused(r) => code(r),
-        Verdict::Accepted => 0,
+        Err(r) => code(r),
+        Ok(()) => 0,
     }
 }
 

@@ -5,8 +5,7 @@
 
 ghost use Rattle.std.specs.Prelude.{◌≤◌, length};
 
-use calls_readings::AimAnswer;
-use chart_opening::Verdict;
+use chart_opening::Refusal;
 
 // Charts that are read at most.
 const MOST: usize = 65536;
@@ -14,8 +13,8 @@ const MOST: usize = 65536;
 // The line of place j.
 fn put_place(out: &mut [u8], at: usize, chart: &[u8], t: &[f64], j: usize) -> usize {
     match calls_readings::read_aim_parts(chart, t, j) {
-        AimAnswer::Refused(r) => print_lines::put_refusal(out, at, r),
-        AimAnswer::Aim(d) => {
+        Err(r) => print_lines::put_refusal(out, at, r),
+        Ok(d) => {
             let with = d.parts;
             let without = d.parts_no_sliders;
             print_lines::put_aim(out, at, j, d.value, with, d.value_no_sliders, without)
@@ -40,8 +39,8 @@ fn answer(out: &mut [u8], chart: &[u8], t: &mut [f64])
     requires { 16384 ≤ length t.old }
 {
     match chart_opening::check(chart, 1024) {
-        Verdict::Refused(r) => print_lines::show_refusal(out, r),
-        Verdict::Accepted => {
+        Err(r) => print_lines::show_refusal(out, r),
+        Ok(()) => {
             let lay = chart_opening::layout_of(chart);
             let set = chart_opening::settings_at(chart, 32);
             osu_records::fill(chart, lay, set, t);

@@ -5,7 +5,7 @@
 
 ghost use Rattle.std.specs.Prelude.{◌≤◌, length};
 
-use chart_opening::Verdict;
+use chart_opening::Refusal;
 
 // Charts that are read at most.
 const MOST: usize = 65536;
@@ -15,8 +15,8 @@ fn answer(out: &mut [u8], chart: &[u8], bytes: &mut [u8], t: &mut [f64], values:
     requires { (8192 ≤ length t.old) × (2560 ≤ length values.old) }
 {
     match chart_opening::check(chart, 512) {
-        Verdict::Refused(r) => print_lines::show_refusal(out, r),
-        Verdict::Accepted => {
+        Err(r) => print_lines::show_refusal(out, r),
+        Ok(()) => {
             let lay = chart_opening::layout_of(chart);
             let set = chart_opening::settings_at(chart, 32);
             print_text::read_numbers(16 * lay.n, bytes, t);

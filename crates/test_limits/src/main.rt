@@ -3,7 +3,7 @@
 
 ghost use Rattle.std.specs.Prelude.{◌≡◌, ◌≤◌, length};
 
-use chart_opening::Verdict;
+use chart_opening::Refusal;
 
 // The most objects of a chart.
 const MOST: usize = 16_384;
@@ -66,12 +66,12 @@ fn put_circles(s: &mut [u8], at: usize, n: usize) {
 }
 
 // What a call answers, on a line.
-fn answer(out: &mut [u8], verdict: Verdict, word: &[u8]) {
+fn answer(out: &mut [u8], verdict: Result<(), Refusal>, word: &[u8]) {
     match verdict {
-        Verdict::Accepted => {
+        Ok(()) => {
             io::write_all(1, word);
         }
-        Verdict::Refused(r) => {
+        Err(r) => {
             let refused = print_text::put_all(out, 0, b"refused ");
             let number = print_text::put_decimal(out, refused, r.number() as u64);
             let end = print_text::put(out, number, b'\n');

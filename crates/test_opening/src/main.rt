@@ -2,7 +2,7 @@
 // `opened`, or `refused` with the number of the condition and the place. The tables count as long enough.
 #![tactic(auto)]
 
-use chart_opening::Verdict;
+use chart_opening::Refusal;
 
 // Charts that are read at most.
 const MOST: usize = 65536;
@@ -10,10 +10,10 @@ const MOST: usize = 65536;
 // The answer for one chart, on a line.
 fn answer(out: &mut [u8], chart: &[u8]) {
     match chart_opening::check(chart, 16_384) {
-        Verdict::Accepted => {
+        Ok(()) => {
             io::write_all(1, b"opened\n");
         }
-        Verdict::Refused(r) => print_lines::show_refusal(out, r),
+        Err(r) => print_lines::show_refusal(out, r),
     }
 }
 

@@ -11,7 +11,7 @@ ghost use Rattle.eval_outer.specs.Records.{record_of};
 ghost use Rattle.test_outer.specs.Values.{gathered_of};
 
 use chart_fields::Layout;
-use chart_opening::{Settings, Verdict};
+use chart_opening::{Refusal, Settings};
 use eval_values::Values;
 use osu_difficulty_object::OsuDifficultyObject;
 
@@ -92,8 +92,8 @@ fn answer(out: &mut [u8], chart: &[u8], t: &mut [f64])
     requires { 1040 ≤ length t.old }
 {
     match chart_opening::check(chart, 65) {
-        Verdict::Refused(r) => print_lines::show_refusal(out, r),
-        Verdict::Accepted => {
+        Err(r) => print_lines::show_refusal(out, r),
+        Ok(()) => {
             let lay = chart_opening::layout_of(chart);
             let set = chart_opening::settings_at(chart, 32);
             osu_records::fill(chart, lay, set, t);

@@ -7,7 +7,7 @@
 
 ghost use Rattle.std.specs.Prelude.{◌+◌, ◌*◌, ◌≤◌, length};
 
-use chart_opening::Verdict;
+use chart_opening::Refusal;
 use skills_rating::Mods;
 use skills_stars::Asked;
 
@@ -82,9 +82,9 @@ fn put_offsets(out: &mut [u8], at: usize, list: &[usize]) -> usize {
 }
 
 // The line of a ranking: the listing, or the refusal; and a line where it changed what it must not.
-fn put_verdict(out: &mut [u8], v: Verdict, list: &[usize], same: bool, zero: bool) -> usize {
+fn put_verdict(out: &mut [u8], v: Result<(), Refusal>, list: &[usize], same: bool, zero: bool) -> usize {
     match v {
-        Verdict::Accepted => {
+        Ok(()) => {
             let word = print_text::put_all(out, 0, b"listing");
             let offsets = put_offsets(out, word, list);
             let end = print_text::put(out, offsets, b'\n');
@@ -93,7 +93,7 @@ fn put_verdict(out: &mut [u8], v: Verdict, list: &[usize], same: bool, zero: boo
             }
             print_text::put_all(out, end, b"scratch not cleared\n")
         }
-        Verdict::Refused(r) => {
+        Err(r) => {
             let end = print_lines::put_refusal(out, 0, r);
             if same {
                 return end;
@@ -116,7 +116,7 @@ fn carry_out(
     aim_no_sliders: &mut [f64],
     speed: &mut [f64],
     flashlight: &mut [f64],
-) -> Verdict {
+) -> Result<(), Refusal> {
     if kind == 1 {
         return pack::join(
             pack,

@@ -8,7 +8,7 @@ ghost use Rattle.osu_object.specs.Osu.{Ready};
 ghost use Rattle.skills.specs.Chart.{Readable};
 
 use chart_fields::Layout;
-use chart_opening::{Settings, Verdict};
+use chart_opening::{Refusal, Settings};
 use skills::Skills;
 
 // Charts that are read at most.
@@ -129,8 +129,8 @@ fn answer(out: &mut [u8], chart: &[u8], t: &mut [f64], values: &mut [f64])
     requires { (16384 ≤ length t.old) × (5120 ≤ length values.old) }
 {
     match chart_opening::check(chart, 1024) {
-        Verdict::Refused(r) => print_lines::show_refusal(out, r),
-        Verdict::Accepted => {
+        Err(r) => print_lines::show_refusal(out, r),
+        Ok(()) => {
             let lay = chart_opening::layout_of(chart);
             let set = chart_opening::settings_at(chart, 32);
             fill_tables(chart, lay, set, t, values);

@@ -4,7 +4,7 @@
 
 ghost use Rattle.std.specs.Prelude.{◌*◌, ◌≤◌, length};
 
-use chart_opening::Verdict;
+use chart_opening::Refusal;
 
 // Charts that are read at most.
 const MOST: usize = 65536;
@@ -28,8 +28,8 @@ fn answer(out: &mut [u8], chart: &[u8], t: &mut [f64])
     requires { 32768 ≤ length t.old }
 {
     match chart_opening::check(chart, 2048) {
-        Verdict::Refused(r) => print_lines::show_refusal(out, r),
-        Verdict::Accepted => {
+        Err(r) => print_lines::show_refusal(out, r),
+        Ok(()) => {
             let lay = chart_opening::layout_of(chart);
             let set = chart_opening::settings_at(chart, 32);
             osu_records::fill(chart, lay, set, t);

@@ -5,16 +5,16 @@
 
 ghost use Rattle.std.specs.Prelude.{◌<◌};
 
-use chart_opening::Verdict;
+use chart_opening::Refusal;
 
 // Charts that are read at most, and calls on each.
 const MOST: usize = 65536;
 
 // The line of an answer.
-fn put_verdict(out: &mut [u8], v: Verdict) -> usize {
+fn put_verdict(out: &mut [u8], v: Result<(), Refusal>) -> usize {
     match v {
-        Verdict::Accepted => print_text::put_all(out, 0, b"accepted\n"),
-        Verdict::Refused(r) => print_lines::put_refusal(out, 0, r),
+        Ok(()) => print_text::put_all(out, 0, b"accepted\n"),
+        Err(r) => print_lines::put_refusal(out, 0, r),
     }
 }
 

@@ -22,8 +22,11 @@
 // each table and those behind the largest N hold what they held.
 #![tactic(auto)]
 
-use calls_readings::{AimAnswer, RecordAnswer, RhythmAnswer, ValuesAnswer};
-use chart_opening::Verdict;
+use chart_opening::Refusal;
+use eval_values::Values;
+use eval_rhythm::Counted;
+use calls_readings::AimDetail;
+use osu_difficulty_object::OsuDifficultyObject;
 
 pub mod lines;
 
@@ -31,35 +34,35 @@ pub mod lines;
 const MOST: usize = 65536;
 
 // The line of an opening or an edit.
-fn show_verdict(v: Verdict, word: &[u8], before: u64, after: u64) {
+fn show_verdict(v: Result<(), Refusal>, word: &[u8], before: u64, after: u64) {
     let mut out = [0u8; 512];
     let end = lines::put_verdict(&mut out[..], 0, v, word, before, after);
     print_text::show(&out[..], end);
 }
 
 // The line of a record.
-fn show_record(place: usize, answer: RecordAnswer) {
+fn show_record(place: usize, answer: Result<OsuDifficultyObject, Refusal>) {
     let mut out = [0u8; 512];
     let end = lines::put_record(&mut out[..], 0, place, answer);
     print_text::show(&out[..], end);
 }
 
 // The line of a place's values.
-fn show_values(place: usize, answer: ValuesAnswer) {
+fn show_values(place: usize, answer: Result<Values, Refusal>) {
     let mut out = [0u8; 512];
     let end = lines::put_values(&mut out[..], 0, place, answer);
     print_text::show(&out[..], end);
 }
 
 // The line of aim with its parts.
-fn show_aim_parts(place: usize, answer: AimAnswer) {
+fn show_aim_parts(place: usize, answer: Result<AimDetail, Refusal>) {
     let mut out = [0u8; 512];
     let end = lines::put_aim_parts(&mut out[..], 0, place, answer);
     print_text::show(&out[..], end);
 }
 
 // The line of a rhythm value with its comparisons.
-fn show_rhythm(place: usize, answer: RhythmAnswer) {
+fn show_rhythm(place: usize, answer: Result<Counted, Refusal>) {
     let mut out = [0u8; 512];
     let end = lines::put_rhythm(&mut out[..], 0, place, answer);
     print_text::show(&out[..], end);
@@ -311,7 +314,7 @@ fn carry_out(
     object: &[u8],
     records: &mut [f64],
     values: &mut [f64],
-) -> Verdict {
+) -> Result<(), Refusal> {
     match kind {
         1 => calls_editor::replace(chart, place, object, records, values),
         7 => calls_editor::insert(chart, place, object, records, values),
@@ -354,7 +357,7 @@ fn carry_out_both(
     values: &mut [f64],
     records_2: &mut [f64],
     values_2: &mut [f64],
-) -> Verdict {
+) -> Result<(), Refusal> {
     match kind {
         33 => calls_editor::replace_both(
             chart, settings, place, object, records, values, records_2, values_2,

@@ -2,9 +2,12 @@
 // and returns the offset behind what it wrote.
 ghost use Rattle.std.specs.Prelude.{◌≤◌};
 
-use calls_figures::TotalsAnswer;
-use calls_readings::{AimAnswer, RecordAnswer, RhythmAnswer, ValuesAnswer};
-use chart_opening::Verdict;
+use chart_opening::Refusal;
+use eval_values::Values;
+use eval_rhythm::Counted;
+use skills::Skills;
+use calls_readings::AimDetail;
+use osu_difficulty_object::OsuDifficultyObject;
 
 // Entries of each table.
 pub const ENTRIES: usize = 1024;
@@ -63,14 +66,14 @@ pub fn hash_all(chart: &[u8], records: &[f64], values: &[f64]) -> u64 {
 pub fn put_verdict(
     out: &mut [u8],
     at: usize,
-    v: Verdict,
+    v: Result<(), Refusal>,
     word: &[u8],
     before: u64,
     after: u64,
 ) -> usize {
     match v {
-        Verdict::Accepted => print_text::put_all(out, at, word),
-        Verdict::Refused(r) => {
+        Ok(()) => print_text::put_all(out, at, word),
+        Err(r) => {
             let end = print_lines::put_refusal(out, at, r);
             if before == after {
                 return end;
@@ -81,10 +84,10 @@ pub fn put_verdict(
 }
 
 // The line of a record that was read.
-pub fn put_record(out: &mut [u8], at: usize, place: usize, answer: RecordAnswer) -> usize {
+pub fn put_record(out: &mut [u8], at: usize, place: usize, answer: Result<OsuDifficultyObject, Refusal>) -> usize {
     match answer {
-        RecordAnswer::Refused(x) => print_lines::put_refusal(out, at, x),
-        RecordAnswer::Record(x) => {
+        Err(x) => print_lines::put_refusal(out, at, x),
+        Ok(x) => {
             let word = print_text::put_all(out, at, b"record ");
             print_lines::put_record(out, word, place, x)
         }
@@ -92,10 +95,10 @@ pub fn put_record(out: &mut [u8], at: usize, place: usize, answer: RecordAnswer)
 }
 
 // The line of a place's values.
-pub fn put_values(out: &mut [u8], at: usize, place: usize, answer: ValuesAnswer) -> usize {
+pub fn put_values(out: &mut [u8], at: usize, place: usize, answer: Result<Values, Refusal>) -> usize {
     match answer {
-        ValuesAnswer::Refused(x) => print_lines::put_refusal(out, at, x),
-        ValuesAnswer::Values(x) => {
+        Err(x) => print_lines::put_refusal(out, at, x),
+        Ok(x) => {
             let word = print_text::put_all(out, at, b"value ");
             print_lines::put_values(out, word, place, x)
         }
@@ -103,10 +106,10 @@ pub fn put_values(out: &mut [u8], at: usize, place: usize, answer: ValuesAnswer)
 }
 
 // The line of aim with its parts.
-pub fn put_aim_parts(out: &mut [u8], at: usize, place: usize, answer: AimAnswer) -> usize {
+pub fn put_aim_parts(out: &mut [u8], at: usize, place: usize, answer: Result<AimDetail, Refusal>) -> usize {
     match answer {
-        AimAnswer::Refused(x) => print_lines::put_refusal(out, at, x),
-        AimAnswer::Aim(flashlight) => {
+        Err(x) => print_lines::put_refusal(out, at, x),
+        Ok(flashlight) => {
             let with = flashlight.parts;
             let without = flashlight.parts_no_sliders;
             let word = print_text::put_all(out, at, b"parts ");
@@ -124,10 +127,10 @@ pub fn put_aim_parts(out: &mut [u8], at: usize, place: usize, answer: AimAnswer)
 }
 
 // The line of a rhythm value with its comparisons.
-pub fn put_rhythm(out: &mut [u8], at: usize, place: usize, answer: RhythmAnswer) -> usize {
+pub fn put_rhythm(out: &mut [u8], at: usize, place: usize, answer: Result<Counted, Refusal>) -> usize {
     match answer {
-        RhythmAnswer::Refused(x) => print_lines::put_refusal(out, at, x),
-        RhythmAnswer::Rhythm(speed) => {
+        Err(x) => print_lines::put_refusal(out, at, x),
+        Ok(speed) => {
             let word = print_text::put_all(out, at, b"rhythm ");
             print_lines::put_rhythm(out, word, place, speed)
         }
@@ -166,18 +169,18 @@ fn put_scratch(
 pub fn put_totals(
     out: &mut [u8],
     at: usize,
-    answer: TotalsAnswer,
+    answer: Result<Skills, Refusal>,
     aim: &[f64],
     aim_no_sliders: &[f64],
     speed: &[f64],
     flashlight: &[f64],
 ) -> usize {
     match answer {
-        TotalsAnswer::Refused(x) => {
+        Err(x) => {
             let end = print_lines::put_refusal(out, at, x);
             put_scratch(out, end, UNUSED, aim, aim_no_sliders, speed, flashlight)
         }
-        TotalsAnswer::Totals(t) => {
+        Ok(t) => {
             let end = print_lines::put_totals(out, at, t);
             put_scratch(out, end, 0.0, aim, aim_no_sliders, speed, flashlight)
         }

@@ -5,8 +5,8 @@
 
 ghost use Rattle.std.specs.Prelude.{◌≤◌, length};
 
-use calls_readings::RhythmAnswer;
-use chart_opening::Verdict;
+use chart_opening::Refusal;
+use eval_rhythm::Counted;
 
 // Charts that are read at most.
 const MOST: usize = 65536;
@@ -17,18 +17,18 @@ fn larger(a: usize, b: usize) -> usize {
 }
 
 // The line of place j.
-fn put_place(out: &mut [u8], at: usize, j: usize, r: RhythmAnswer) -> usize {
+fn put_place(out: &mut [u8], at: usize, j: usize, r: Result<Counted, Refusal>) -> usize {
     match r {
-        RhythmAnswer::Refused(x) => print_lines::put_refusal(out, at, x),
-        RhythmAnswer::Rhythm(c) => print_lines::put_rhythm(out, at, j, c),
+        Err(x) => print_lines::put_refusal(out, at, x),
+        Ok(c) => print_lines::put_rhythm(out, at, j, c),
     }
 }
 
 // The comparisons of an answer.
-fn compared(r: RhythmAnswer) -> usize {
+fn compared(r: Result<Counted, Refusal>) -> usize {
     match r {
-        RhythmAnswer::Refused(x) => 0,
-        RhythmAnswer::Rhythm(c) => c.comparisons,
+        Err(x) => 0,
+        Ok(c) => c.comparisons,
     }
 }
 
@@ -60,8 +60,8 @@ fn answer(out: &mut [u8], chart: &[u8], t: &mut [f64])
     requires { 16384 ≤ length t.old }
 {
     match chart_opening::check(chart, 1024) {
-        Verdict::Refused(r) => print_lines::show_refusal(out, r),
-        Verdict::Accepted => {
+        Err(r) => print_lines::show_refusal(out, r),
+        Ok(()) => {
             let lay = chart_opening::layout_of(chart);
             let set = chart_opening::settings_at(chart, 32);
             osu_records::fill(chart, lay, set, t);

@@ -1,4 +1,5 @@
 -- `calls_figures::counts_as` meets its contract. Assumes nothing.
+use Rattle.std.proofs.lemmas.Result.{err_from_is_err_and}
 use mathlib.Core.Path.{refl, sym, ap, ◌∙◌}
 use mathlib.Core.List.{[]}
 use native.Mathlib.Omega.{arith}
@@ -21,31 +22,34 @@ settings_at-clock-requires c =
     omega (
       arith,
       sized a.settings.now a.chart.now (length a.values.now) (lengths (scratch_of a.aim.now a.aim_no_sliders.now a.speed.now a.flashlight.now))
-          (sym c.check_lent.ensures ∙ c.in-Accepted.is),
+          (sym c.check_lent.ensures ∙ c.in_ok-check_lent.was),
     )
 
 pub counts_of-c-requires : goal.counts_of-c-requires
 counts_of-c-requires c =
     let a = c.args in
     sums a.settings.now a.chart.now (length a.values.now) (lengths (scratch_of a.aim.now a.aim_no_sliders.now a.speed.now a.flashlight.now))
-    (sym c.check_lent.ensures ∙ c.in-Accepted.is)
+    (sym c.check_lent.ensures ∙ c.in_ok-check_lent.was)
 
-pub returns-in-Refused : goal.returns-in-Refused
-returns-in-Refused c =
-    let a = c.args in
-    let h = refused_by_sums counts a.settings.now a.chart.now a.values.now (scratch_of a.aim.now a.aim_no_sliders.now a.speed.now a.flashlight.now) _
-    (sym c.check_lent.ensures ∙ c.in-Refused.is) in
-    record {
-      answer = sym h.0;
-      scratch = sym h.1;
-    }
+pub returns-in_err-check_lent : goal.returns-in_err-check_lent
+returns-in_err-check_lent c =
+    let p = err_from_is_err_and c.from_residual.result c.from_residual.ensures.1 in
+    rw (p.1, p.2) (
+      let a = c.args in
+      let h = refused_by_sums counts a.settings.now a.chart.now a.values.now (scratch_of a.aim.now a.aim_no_sliders.now a.speed.now a.flashlight.now) _
+      (sym c.check_lent.ensures ∙ c.in_err-check_lent.was) in
+      record {
+        answer = sym h.0;
+        scratch = sym h.1;
+      }
+    )
 
-pub returns-in-Accepted : goal.returns-in-Accepted
+pub returns : goal.returns
 unfolding asked_conditions first_of figure_of counts_of
-returns-in-Accepted c =
+returns c =
     let a = c.args in
     let h = worked_out counts a.settings.now a.chart.now a.values.now (scratch_of a.aim.now a.aim_no_sliders.now a.speed.now a.flashlight.now)
-    (sym c.check_lent.ensures ∙ c.in-Accepted.is) refl in
+    (sym c.check_lent.ensures ∙ c.in_ok-check_lent.was) refl in
     let t = c.counts_of-c.ensures in
     let r = t.result ∙ ap (λ (s : Settings). Chart.counts_of a.chart.now (layout_of a.chart.now) s.clock_rate a.values.now) c.settings_at-clock.ensures in
     record {

@@ -1,4 +1,5 @@
 -- `calls_figures::ratings_as` meets its contract. Assumes nothing.
+use Rattle.std.proofs.lemmas.Result.{err_from_is_err_and}
 use mathlib.Core.Path.{sym, ap, ◌∙◌}
 use mathlib.Core.List.{[]}
 use native.Mathlib.Omega.{arith}
@@ -21,7 +22,7 @@ pub returns-then-not-is_finite : goal.returns-then-not-is_finite
 returns-then-not-is_finite c =
     let a = c.args in
     let h = refused_as_asked (ratings a.asked) a.settings.now a.chart.now a.values.now (scratch_of a.aim.now a.aim_no_sliders.now a.speed.now a.flashlight.now) NotFinite
-    (sym c.check_lent.ensures ∙ c.in-Accepted.is)
+    (sym c.check_lent.ensures ∙ c.in_ok-check_lent.was)
     (not_finite a.asked (count a.chart.now) (sym c.is_finite.ensures ∙ c.if-not-is_finite.true)) in
     record {
       answer = sym h.0;
@@ -34,37 +35,40 @@ settings_at-clock-requires c =
     omega (
       arith,
       sized a.settings.now a.chart.now (length a.values.now) (lengths (scratch_of a.aim.now a.aim_no_sliders.now a.speed.now a.flashlight.now))
-          (sym c.check_lent.ensures ∙ c.in-Accepted.is),
+          (sym c.check_lent.ensures ∙ c.in_ok-check_lent.was),
     )
 
 pub totals_of-t-requires : goal.totals_of-t-requires
 totals_of-t-requires c =
     let a = c.args in
     sums a.settings.now a.chart.now (length a.values.now) (lengths (scratch_of a.aim.now a.aim_no_sliders.now a.speed.now a.flashlight.now))
-    (sym c.check_lent.ensures ∙ c.in-Accepted.is)
+    (sym c.check_lent.ensures ∙ c.in_ok-check_lent.was)
 
 pub rate-requires : goal.rate-requires
 rate-requires c =
     let a = c.args in
     counted (sums a.settings.now a.chart.now (length a.values.now) (lengths (scratch_of a.aim.now a.aim_no_sliders.now a.speed.now a.flashlight.now))
-    (sym c.check_lent.ensures ∙ c.in-Accepted.is))
+    (sym c.check_lent.ensures ∙ c.in_ok-check_lent.was))
 
-pub returns-in-Refused : goal.returns-in-Refused
-returns-in-Refused c =
-    let a = c.args in
-    let h = refused_by_sums (ratings a.asked) a.settings.now a.chart.now a.values.now (scratch_of a.aim.now a.aim_no_sliders.now a.speed.now a.flashlight.now) _
-    (sym c.check_lent.ensures ∙ c.in-Refused.is) in
-    record {
-      answer = sym h.0;
-      scratch = sym h.1;
-    }
+pub returns-in_err-check_lent : goal.returns-in_err-check_lent
+returns-in_err-check_lent c =
+    let p = err_from_is_err_and c.from_residual.result c.from_residual.ensures.1 in
+    rw (p.1, p.2) (
+      let a = c.args in
+      let h = refused_by_sums (ratings a.asked) a.settings.now a.chart.now a.values.now (scratch_of a.aim.now a.aim_no_sliders.now a.speed.now a.flashlight.now) _
+      (sym c.check_lent.ensures ∙ c.in_err-check_lent.was) in
+      record {
+        answer = sym h.0;
+        scratch = sym h.1;
+      }
+    )
 
-pub returns-else-not-is_finite : goal.returns-else-not-is_finite
+pub returns : goal.returns
 unfolding figure_of totals_of
-returns-else-not-is_finite c =
+returns c =
     let a = c.args in
     let h = worked_out (ratings a.asked) a.settings.now a.chart.now a.values.now (scratch_of a.aim.now a.aim_no_sliders.now a.speed.now a.flashlight.now)
-    (sym c.check_lent.ensures ∙ c.in-Accepted.is)
+    (sym c.check_lent.ensures ∙ c.in_ok-check_lent.was)
     (all_finite a.asked (count a.chart.now) (sym c.is_finite.ensures ∙ c.if-not-is_finite.false)) in
     let t = c.totals_of-t.ensures in
     let u = t.result ∙ ap (λ (s : Settings). Chart.totals_of a.chart.now (layout_of a.chart.now) s.clock_rate a.values.now) c.settings_at-clock.ensures in

@@ -1,4 +1,5 @@
 -- `calls_figures::totals_to_as` meets its contract. Assumes nothing.
+use Rattle.std.proofs.lemmas.Result.{err_from_is_err_and}
 use mathlib.Core.Path.{sym, ap, ◌∙◌}
 use mathlib.Core.List.{[]}
 use native.Mathlib.Omega.{arith}
@@ -19,13 +20,13 @@ pub count_of-requires : goal.count_of-requires
 count_of-requires c =
     let a = c.args in
     counted (sums a.settings.now a.chart.now (length a.values.now) (lengths (scratch_of a.aim.now a.aim_no_sliders.now a.speed.now a.flashlight.now))
-    (sym c.check_lent.ensures ∙ c.in-Accepted.is))
+    (sym c.check_lent.ensures ∙ c.in_ok-check_lent.was))
 
 pub returns-then-count_of-m : goal.returns-then-count_of-m
 returns-then-count_of-m c =
     let a = c.args in
     let h = refused_as_asked (totals_to a.m) a.settings.now a.chart.now a.values.now (scratch_of a.aim.now a.aim_no_sliders.now a.speed.now a.flashlight.now) Place
-    (sym c.check_lent.ensures ∙ c.in-Accepted.is)
+    (sym c.check_lent.ensures ∙ c.in_ok-check_lent.was)
     (too_many a.m (count a.chart.now) (omega (arith, c.if-count_of-m.true, c.count_of.ensures.0))) in
     record {
       answer = sym h.0;
@@ -38,33 +39,36 @@ settings_at-clock-requires c =
     omega (
       arith,
       sized a.settings.now a.chart.now (length a.values.now) (lengths (scratch_of a.aim.now a.aim_no_sliders.now a.speed.now a.flashlight.now))
-          (sym c.check_lent.ensures ∙ c.in-Accepted.is),
+          (sym c.check_lent.ensures ∙ c.in_ok-check_lent.was),
     )
 
 pub reached_of-t-requires : goal.reached_of-t-requires
 reached_of-t-requires c =
     let a = c.args in record {
       sums = sums a.settings.now a.chart.now (length a.values.now) (lengths (scratch_of a.aim.now a.aim_no_sliders.now a.speed.now a.flashlight.now))
-          (sym c.check_lent.ensures ∙ c.in-Accepted.is);
+          (sym c.check_lent.ensures ∙ c.in_ok-check_lent.was);
       m_bound = omega (arith, c.if-count_of-m.false, c.count_of.ensures.0);
     }
 
-pub returns-in-Refused : goal.returns-in-Refused
-returns-in-Refused c =
-    let a = c.args in
-    let h = refused_by_sums (totals_to a.m) a.settings.now a.chart.now a.values.now (scratch_of a.aim.now a.aim_no_sliders.now a.speed.now a.flashlight.now) _
-    (sym c.check_lent.ensures ∙ c.in-Refused.is) in
-    record {
-      answer = sym h.0;
-      scratch = sym h.1;
-    }
+pub returns-in_err-check_lent : goal.returns-in_err-check_lent
+returns-in_err-check_lent c =
+    let p = err_from_is_err_and c.from_residual.result c.from_residual.ensures.1 in
+    rw (p.1, p.2) (
+      let a = c.args in
+      let h = refused_by_sums (totals_to a.m) a.settings.now a.chart.now a.values.now (scratch_of a.aim.now a.aim_no_sliders.now a.speed.now a.flashlight.now) _
+      (sym c.check_lent.ensures ∙ c.in_err-check_lent.was) in
+      record {
+        answer = sym h.0;
+        scratch = sym h.1;
+      }
+    )
 
-pub returns-else-count_of-m : goal.returns-else-count_of-m
+pub returns : goal.returns
 unfolding figure_of reached_of
-returns-else-count_of-m c =
+returns c =
     let a = c.args in
     let h = worked_out (totals_to a.m) a.settings.now a.chart.now a.values.now (scratch_of a.aim.now a.aim_no_sliders.now a.speed.now a.flashlight.now)
-    (sym c.check_lent.ensures ∙ c.in-Accepted.is)
+    (sym c.check_lent.ensures ∙ c.in_ok-check_lent.was)
     (as_many a.m (count a.chart.now) (omega (arith, c.if-count_of-m.false, c.count_of.ensures.0))) in
     let t = c.reached_of-t.ensures in
     let r = t.result ∙ ap (λ (s : Settings). totals_after a.chart.now (layout_of a.chart.now) s.clock_rate a.values.now a.m) c.settings_at-clock.ensures in

@@ -1,4 +1,5 @@
 -- `calls_figures::totals_while_playing_as` meets its contract. Assumes nothing.
+use Rattle.std.proofs.lemmas.Result.{err_from_is_err_and}
 use Prim.Native.Nat.{◌+◌, ◌/◌}
 use mathlib.Core.Path.{sym, ap, ◌∙◌}
 use native.Mathlib.Omega.{arith}
@@ -20,13 +21,13 @@ pub count_of-requires : goal.count_of-requires
 count_of-requires c =
     let a = c.args in
     counted (sums a.settings.now a.chart.now (length a.values.now) (lengths (scratch_of a.aim.now a.aim_no_sliders.now a.speed.now a.flashlight.now))
-    (sym c.check_lent.ensures ∙ c.in-Accepted.is))
+    (sym c.check_lent.ensures ∙ c.in_ok-check_lent.was))
 
 pub returns-then-list-count_of : goal.returns-then-list-count_of
 unfolding list_after
 returns-then-list-count_of c =
     let a = c.args in
-    let e = (sym c.check_lent.ensures ∙ c.in-Accepted.is) in
+    let e = (sym c.check_lent.ensures ∙ c.in_ok-check_lent.was) in
     let s = short_list (length a.list.now / totals_width) (count a.chart.now) (omega (arith, c.if-list-count_of.true, c.count_of.ensures.0)) in
     let x = (scratch_of a.aim.now a.aim_no_sliders.now a.speed.now a.flashlight.now) in
     let h = refused_as_asked (playing (length a.list.now / totals_width)) a.settings.now a.chart.now a.values.now x Table e s in
@@ -42,36 +43,39 @@ settings_at-clock-requires c =
     omega (
       arith,
       sized a.settings.now a.chart.now (length a.values.now) (lengths (scratch_of a.aim.now a.aim_no_sliders.now a.speed.now a.flashlight.now))
-          (sym c.check_lent.ensures ∙ c.in-Accepted.is),
+          (sym c.check_lent.ensures ∙ c.in_ok-check_lent.was),
     )
 
 pub fill_list-requires : goal.fill_list-requires
 fill_list-requires c =
     let a = c.args in record {
       sums = sums a.settings.now a.chart.now (length a.values.now) (lengths (scratch_of a.aim.now a.aim_no_sliders.now a.speed.now a.flashlight.now))
-          (sym c.check_lent.ensures ∙ c.in-Accepted.is);
+          (sym c.check_lent.ensures ∙ c.in_ok-check_lent.was);
       chart_in_bounds = omega (arith, c.if-list-count_of.false, c.count_of.ensures.0);
     }
 
-pub returns-in-Refused : goal.returns-in-Refused
+pub returns-in_err-check_lent : goal.returns-in_err-check_lent
 unfolding list_after
-returns-in-Refused c =
-    let a = c.args in
-    let e = (sym c.check_lent.ensures ∙ c.in-Refused.is) in
-    let x = (scratch_of a.aim.now a.aim_no_sliders.now a.speed.now a.flashlight.now) in
-    let h = refused_by_sums (playing (length a.list.now / totals_width)) a.settings.now a.chart.now a.values.now x _ e in
-    record {
-      answer = sym (met_by_sums (playing (length a.list.now / totals_width)) a.settings.now a.chart.now a.values.now x _ e);
-      list = sym (ap (λ (o : Outcome). list_after o.answer a.list.now) h.0);
-      scratch = sym h.1;
-    }
+returns-in_err-check_lent c =
+    let p = err_from_is_err_and c.from_residual.result c.from_residual.ensures.1 in
+    rw (p.1, p.2) (
+      let a = c.args in
+      let e = (sym c.check_lent.ensures ∙ c.in_err-check_lent.was) in
+      let x = (scratch_of a.aim.now a.aim_no_sliders.now a.speed.now a.flashlight.now) in
+      let h = refused_by_sums (playing (length a.list.now / totals_width)) a.settings.now a.chart.now a.values.now x _ e in
+      record {
+        answer = sym (met_by_sums (playing (length a.list.now / totals_width)) a.settings.now a.chart.now a.values.now x _ e);
+        list = sym (ap (λ (o : Outcome). list_after o.answer a.list.now) h.0);
+        scratch = sym h.1;
+      }
+    )
 
-pub returns-else-list-count_of : goal.returns-else-list-count_of
+pub returns : goal.returns
 unfolding reached_of
-returns-else-list-count_of c =
+returns c =
     let a = c.args in
     let x = (scratch_of a.aim.now a.aim_no_sliders.now a.speed.now a.flashlight.now) in
-    let e = (sym c.check_lent.ensures ∙ c.in-Accepted.is) in
+    let e = (sym c.check_lent.ensures ∙ c.in_ok-check_lent.was) in
     let s = long_list (length a.list.now / totals_width) (count a.chart.now) (omega (arith, c.if-list-count_of.false, c.count_of.ensures.0)) in
     let v = met_as_asked (playing (length a.list.now / totals_width)) a.settings.now a.chart.now a.values.now x _ e s in
     let h = worked_out (playing (length a.list.now / totals_width)) a.settings.now a.chart.now a.values.now x e s in

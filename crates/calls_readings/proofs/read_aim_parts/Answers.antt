@@ -1,4 +1,5 @@
 -- `calls_readings::read_aim_parts` meets its contract. Assumes nothing.
+use Rattle.std.proofs.lemmas.Result.{err_from_is_err_and}
 use mathlib.Core.Path.{sym, ◌∙◌}
 use mathlib.Core.List.{[]}
 use Rattle.calls.specs.Afresh.{aim_parts}
@@ -9,15 +10,18 @@ use Rattle.calls_readings.proofs.read_aim_parts.Goals as goal
 pub aim_at-requires : goal.aim_at-requires
 aim_at-requires c =
     let a = c.args in
-    in_table a.chart.now a.records.now a.place (sym c.check_reading.ensures ∙ c.in-Accepted.is)
+    in_table a.chart.now a.records.now a.place (sym c.check_reading.ensures ∙ c.in_ok-check_reading.was)
 
-pub returns-in-Refused : goal.returns-in-Refused
-returns-in-Refused c =
-    let a = c.args in
-    sym (detail_refused a.chart.now a.records.now a.place aim_parts _ (sym c.check_reading.ensures ∙ c.in-Refused.is))
+pub returns-in_err-check_reading : goal.returns-in_err-check_reading
+returns-in_err-check_reading c =
+    let p = err_from_is_err_and c.from_residual.result c.from_residual.ensures.1 in
+    rw (p.1, p.2) (
+      let a = c.args in
+      sym (detail_refused a.chart.now a.records.now a.place aim_parts _ (sym c.check_reading.ensures ∙ c.in_err-check_reading.was))
+    )
 
-pub returns-in-Accepted : goal.returns-in-Accepted
-returns-in-Accepted c =
+pub returns : goal.returns
+returns c =
     let a = c.args in
     (λ i. outcome_with (detail_is (c.aim_at.ensures i)) a.chart.now a.records.now [])
-    ∙ sym (detail_read a.chart.now a.records.now a.place aim_parts (sym c.check_reading.ensures ∙ c.in-Accepted.is))
+    ∙ sym (detail_read a.chart.now a.records.now a.place aim_parts (sym c.check_reading.ensures ∙ c.in_ok-check_reading.was))

@@ -1,16 +1,19 @@
 -- `chart_inserting::check_remove` meets its contract. Assumes nothing.
+use Rattle.std.proofs.lemmas.Result.{err_from_is_err_and}
 use mathlib.Core.Path.{sym, ◌∙◌}
 use Rattle.chart_opening.specs.Accepted.{opens, first_refused, first_passed}
 use Rattle.chart_inserting.specs.Insert.{remove_conditions}
 use Rattle.chart_inserting.proofs.check_remove.Goals as goal
 
 pub check_remove_at-requires : goal.check_remove_at-requires
-check_remove_at-requires c = opens _ _ (sym c.check.ensures ∙ c.in-Accepted.is)
+check_remove_at-requires c = opens _ _ (sym c.check.ensures ∙ c.in_ok-check.was)
 
-pub returns-in-Refused : goal.returns-in-Refused
+pub returns-in_err-check : goal.returns-in_err-check
 unfolding remove_conditions
-returns-in-Refused c = sym (first_refused _ _ _ (sym c.check.ensures ∙ c.in-Refused.is))
+returns-in_err-check c =
+    let p = err_from_is_err_and c.from_residual.result c.from_residual.ensures.1 in
+    rw (p.1, p.2) (sym (first_refused _ _ _ (sym c.check.ensures ∙ c.in_err-check.was)))
 
-pub returns-in-Accepted : goal.returns-in-Accepted
+pub returns : goal.returns
 unfolding remove_conditions
-returns-in-Accepted c = c.check_remove_at.ensures ∙ sym (first_passed _ _ (sym c.check.ensures ∙ c.in-Accepted.is))
+returns c = c.check_remove_at.ensures ∙ sym (first_passed _ _ (sym c.check.ensures ∙ c.in_ok-check.was))

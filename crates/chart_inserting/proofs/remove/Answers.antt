@@ -1,4 +1,5 @@
 -- `chart_inserting::remove` meets its contract. Assumes nothing.
+use Rattle.std.proofs.lemmas.Result.{err_from_is_err_and}
 use mathlib.Core.Path.{sym, ◌∙◌}
 use Rattle.chart_opening.specs.Conditions.{if_accepted}
 use Rattle.chart_inserting.proofs.Accepted.{removed}
@@ -6,18 +7,22 @@ use borrow.Author.Rules.{rules}
 use Rattle.chart_inserting.proofs.remove.Goals as goal
 
 pub take_out-requires : goal.take_out-requires
-take_out-requires c = removed _ _ _ (sym c.check_remove.ensures ∙ c.in-Accepted.is)
+take_out-requires c = removed _ _ _ (sym c.check_remove.ensures ∙ c.in_ok-check_remove.was)
 
-pub returns-in-Refused : goal.returns-in-Refused
+pub returns-in_err-check_remove : goal.returns-in_err-check_remove
 unfolding if_accepted
-returns-in-Refused c = record {
-  answer = sym c.in-Refused.is ∙ c.check_remove.ensures;
-  chart = search rules;
-}
+returns-in_err-check_remove c =
+    let p = err_from_is_err_and c.from_residual.result c.from_residual.ensures.1 in
+    rw (p.1, p.2) (
+    record {
+      answer = sym c.in_err-check_remove.was ∙ c.check_remove.ensures;
+      chart = search rules;
+    }
+    )
 
-pub returns-in-Accepted : goal.returns-in-Accepted
+pub returns : goal.returns
 unfolding if_accepted
-returns-in-Accepted c = record {
-  answer = sym c.in-Accepted.is ∙ c.check_remove.ensures;
+returns c = record {
+  answer = sym c.in_ok-check_remove.was ∙ c.check_remove.ensures;
   chart = c.take_out.ensures;
 }

@@ -1,4 +1,5 @@
 -- `chart_opening::check_under` meets its contract. Assumes nothing.
+use Rattle.std.proofs.lemmas.Result.{err_from_is_err_and}
 use mathlib.Core.Path.{sym, ◌∙◌}
 use native.Mathlib.Omega.{arith}
 use borrow.Author.Tests.{lt-ltb, le-ltb}
@@ -13,11 +14,13 @@ returns-then-not-settings_ok c = simp (sym c.settings_ok.ensures ∙ c.if-not-se
 pub check_body-requires : goal.check_body-requires
 check_body-requires c = rw c.layout_of-lay.ensures c.requires.1
 
-pub returns-in-Refused : goal.returns-in-Refused
-returns-in-Refused c = sym (body_refuses _ _ _ c.layout_of-lay.ensures (sym c.settings_ok.ensures ∙ c.if-not-settings_ok.false) c.check_body.ensures _ c.in-Refused.is)
+pub returns-in_err-check_body : goal.returns-in_err-check_body
+returns-in_err-check_body c =
+    let p = err_from_is_err_and c.from_residual.result c.from_residual.ensures.1 in
+    rw (p.1, p.2) (sym (body_refuses _ _ _ c.layout_of-lay.ensures (sym c.settings_ok.ensures ∙ c.if-not-settings_ok.false) c.check_body.ensures _ c.in_err-check_body.was))
 
 pub returns-then-entries-lay : goal.returns-then-entries-lay
-returns-then-entries-lay c = sym (body_accepts _ _ _ c.layout_of-lay.ensures (sym c.settings_ok.ensures ∙ c.if-not-settings_ok.false) c.check_body.ensures c.in-Accepted.is ∙ simp (lt-ltb c.args.entries c.layout_of-lay.result.n (omega (arith, c.if-entries-lay.true))))
+returns-then-entries-lay c = sym (body_accepts _ _ _ c.layout_of-lay.ensures (sym c.settings_ok.ensures ∙ c.if-not-settings_ok.false) c.check_body.ensures c.in_ok-check_body.was ∙ simp (lt-ltb c.args.entries c.layout_of-lay.result.n (omega (arith, c.if-entries-lay.true))))
 
-pub returns-else-entries-lay : goal.returns-else-entries-lay
-returns-else-entries-lay c = sym (body_accepts _ _ _ c.layout_of-lay.ensures (sym c.settings_ok.ensures ∙ c.if-not-settings_ok.false) c.check_body.ensures c.in-Accepted.is ∙ simp (le-ltb c.args.entries c.layout_of-lay.result.n (omega (arith, c.if-entries-lay.false))))
+pub returns : goal.returns
+returns c = sym (body_accepts _ _ _ c.layout_of-lay.ensures (sym c.settings_ok.ensures ∙ c.if-not-settings_ok.false) c.check_body.ensures c.in_ok-check_body.was ∙ simp (le-ltb c.args.entries c.layout_of-lay.result.n (omega (arith, c.if-entries-lay.false))))

@@ -1,4 +1,5 @@
 -- `chart_players::check_insert_as` meets its contract. Assumes nothing.
+use Rattle.std.proofs.lemmas.Result.{err_from_is_err_and}
 use Rattle.chart_fields.specs.Objects.{fields_at}
 use Rattle.chart_inserting.specs.Insert.{insert_place_conditions, insert_verdict}
 use Rattle.chart_players.specs.Second.{under}
@@ -22,7 +23,7 @@ pub overflow_add-lay : goal.overflow_add-lay
 overflow_add-lay c = let f = (holds _ (header_ok_lem _ c.requires.opens)).few in let l = ap (λ (x : Layout). x.n) c.layout_of-lay.ensures in omega (arith, f, l)
 
 pub settings_at-set-requires : goal.settings_at-set-requires
-settings_at-set-requires c = let a = c.args in let s = (edit_settings a.settings.now a.chart.now a.entries (insert_verdict (under a.settings.now a.chart.now) a.place a.object.now a.entries) (insert_place_conditions (under a.settings.now a.chart.now) a.place a.object.now) ((layout_of a.chart.now).n + 1) (insert_tried a.settings.now a.chart.now a.entries a.place a.object.now) (ap (λ (l : Layout). l.n + 1) c.layout_of-lay.ensures) c.check_other.ensures c.in-Accepted.is).1 in omega (arith, s)
+settings_at-set-requires c = let a = c.args in let s = (edit_settings a.settings.now a.chart.now a.entries (insert_verdict (under a.settings.now a.chart.now) a.place a.object.now a.entries) (insert_place_conditions (under a.settings.now a.chart.now) a.place a.object.now) ((layout_of a.chart.now).n + 1) (insert_tried a.settings.now a.chart.now a.entries a.place a.object.now) (ap (λ (l : Layout). l.n + 1) c.layout_of-lay.ensures) c.check_other.ensures c.in_ok-check_other.was).1 in omega (arith, s)
 
 pub fields_at-f-requires : goal.fields_at-f-requires
 fields_at-f-requires c = let f = (holds _ (header_ok_lem _ c.requires.opens)).size_least in let l = ap (λ (x : Layout). x.object_size) c.layout_of-lay.ensures in (omega (arith, f, l), omega (arith, c.requires.long, l))
@@ -30,8 +31,10 @@ fields_at-f-requires c = let f = (holds _ (header_ok_lem _ c.requires.opens)).si
 pub long_with-requires : goal.long_with-requires
 long_with-requires c = (rw c.layout_of-lay.ensures (holds _ (header_ok_lem _ c.requires.opens)), rw c.layout_of-lay.ensures c.requires.at)
 
-pub returns-in-Refused : goal.returns-in-Refused
-returns-in-Refused c = let a = c.args in edit_refused a.settings.now a.chart.now a.entries (insert_verdict (under a.settings.now a.chart.now) a.place a.object.now a.entries) (insert_place_conditions (under a.settings.now a.chart.now) a.place a.object.now) ((layout_of a.chart.now).n + 1) (insert_tried a.settings.now a.chart.now a.entries a.place a.object.now) (ap (λ (l : Layout). l.n + 1) c.layout_of-lay.ensures) c.check_other.ensures c.in-Refused.is
+pub returns-in_err-check_other : goal.returns-in_err-check_other
+returns-in_err-check_other c =
+    let p = err_from_is_err_and c.from_residual.result c.from_residual.ensures.1 in
+    rw (p.1, p.2) (let a = c.args in edit_refused a.settings.now a.chart.now a.entries (insert_verdict (under a.settings.now a.chart.now) a.place a.object.now a.entries) (insert_place_conditions (under a.settings.now a.chart.now) a.place a.object.now) ((layout_of a.chart.now).n + 1) (insert_tried a.settings.now a.chart.now a.entries a.place a.object.now) (ap (λ (l : Layout). l.n + 1) c.layout_of-lay.ensures) c.check_other.ensures c.in_err-check_other.was)
 
-pub returns-in-Accepted : goal.returns-in-Accepted
-returns-in-Accepted c = let a = c.args in let s = edit_settings a.settings.now a.chart.now a.entries (insert_verdict (under a.settings.now a.chart.now) a.place a.object.now a.entries) (insert_place_conditions (under a.settings.now a.chart.now) a.place a.object.now) ((layout_of a.chart.now).n + 1) (insert_tried a.settings.now a.chart.now a.entries a.place a.object.now) (ap (λ (l : Layout). l.n + 1) c.layout_of-lay.ensures) c.check_other.ensures c.in-Accepted.is in let fj = c.fields_at-f.ensures ∙ ap (λ (l : Layout). fields_at a.object.now 0 l.object_size) c.layout_of-lay.ensures in edit_passed a.settings.now a.chart.now a.entries (insert_verdict (under a.settings.now a.chart.now) a.place a.object.now a.entries) (insert_place_conditions (under a.settings.now a.chart.now) a.place a.object.now) ((layout_of a.chart.now).n + 1) (insert_tried a.settings.now a.chart.now a.entries a.place a.object.now) (ap (λ (l : Layout). l.n + 1) c.layout_of-lay.ensures) c.check_other.ensures c.in-Accepted.is (insert_after a.settings.now a.chart.now s.0 s.1 a.place a.object.now c.requires ∙ sym (λ j. refuse_if (long_with a.chart.now (c.layout_of-lay.ensures j) (c.settings_at-set.ensures j).clock_rate a.place (fj j)) Length) ∙ sym (c.length_verdict.ensures ∙ ap (λ b. refuse_if b Length) c.long_with.ensures))
+pub returns : goal.returns
+returns c = let a = c.args in let s = edit_settings a.settings.now a.chart.now a.entries (insert_verdict (under a.settings.now a.chart.now) a.place a.object.now a.entries) (insert_place_conditions (under a.settings.now a.chart.now) a.place a.object.now) ((layout_of a.chart.now).n + 1) (insert_tried a.settings.now a.chart.now a.entries a.place a.object.now) (ap (λ (l : Layout). l.n + 1) c.layout_of-lay.ensures) c.check_other.ensures c.in_ok-check_other.was in let fj = c.fields_at-f.ensures ∙ ap (λ (l : Layout). fields_at a.object.now 0 l.object_size) c.layout_of-lay.ensures in edit_passed a.settings.now a.chart.now a.entries (insert_verdict (under a.settings.now a.chart.now) a.place a.object.now a.entries) (insert_place_conditions (under a.settings.now a.chart.now) a.place a.object.now) ((layout_of a.chart.now).n + 1) (insert_tried a.settings.now a.chart.now a.entries a.place a.object.now) (ap (λ (l : Layout). l.n + 1) c.layout_of-lay.ensures) c.check_other.ensures c.in_ok-check_other.was (insert_after a.settings.now a.chart.now s.0 s.1 a.place a.object.now c.requires ∙ sym (λ j. refuse_if (long_with a.chart.now (c.layout_of-lay.ensures j) (c.settings_at-set.ensures j).clock_rate a.place (fj j)) Length) ∙ sym (c.length_verdict.ensures ∙ ap (λ b. refuse_if b Length) c.long_with.ensures))

@@ -1,4 +1,5 @@
 -- `chart_replacing::replace` meets its contract. Assumes nothing.
+use Rattle.std.proofs.lemmas.Result.{err_from_is_err_and}
 use mathlib.Core.Path.{sym, ◌∙◌}
 use Rattle.chart_opening.specs.Conditions.{if_accepted}
 use Rattle.chart_replacing.proofs.Accepted.{taken}
@@ -6,18 +7,22 @@ use borrow.Author.Rules.{rules}
 use Rattle.chart_replacing.proofs.replace.Goals as goal
 
 pub put_object-requires : goal.put_object-requires
-put_object-requires c = taken _ _ _ _ (sym c.check_replace.ensures ∙ c.in-Accepted.is)
+put_object-requires c = taken _ _ _ _ (sym c.check_replace.ensures ∙ c.in_ok-check_replace.was)
 
-pub returns-in-Refused : goal.returns-in-Refused
+pub returns-in_err-check_replace : goal.returns-in_err-check_replace
 unfolding if_accepted
-returns-in-Refused c = record {
-  answer = sym c.in-Refused.is ∙ c.check_replace.ensures;
-  chart = search rules;
-}
+returns-in_err-check_replace c =
+    let p = err_from_is_err_and c.from_residual.result c.from_residual.ensures.1 in
+    rw (p.1, p.2) (
+    record {
+      answer = sym c.in_err-check_replace.was ∙ c.check_replace.ensures;
+      chart = search rules;
+    }
+    )
 
-pub returns-in-Accepted : goal.returns-in-Accepted
+pub returns : goal.returns
 unfolding if_accepted
-returns-in-Accepted c = record {
-  answer = sym c.in-Accepted.is ∙ c.check_replace.ensures;
+returns c = record {
+  answer = sym c.in_ok-check_replace.was ∙ c.check_replace.ensures;
   chart = c.put_object.ensures;
 }

@@ -7,11 +7,11 @@ use Rattle.pack.proofs.check_all.Goals as goal
 pub loop-i-init : goal.loop-i-init
 loop-i-init c = let a = c.args in start (listed_check a.entries a.short a.finite a.pack.now) a.list.now
 
-pub returns-in-Refused : goal.returns-in-Refused
-returns-in-Refused c = let a = c.args in found (listed_check a.entries a.short a.finite a.pack.now) a.list.now c.loop-i.invariant c.loop-i-test.true (sym c.check_listed.ensures ∙ c.in-Refused.is)
+pub returns-in-Err : goal.returns-in-Err
+returns-in-Err c = let a = c.args in found (listed_check a.entries a.short a.finite a.pack.now) a.list.now c.loop-i.invariant c.loop-i-test.true (sym c.check_listed.ensures ∙ c.in-Err.is)
 
 pub loop-i-preserved : goal.loop-i-preserved
-loop-i-preserved c = let a = c.args in next (listed_check a.entries a.short a.finite a.pack.now) a.list.now c.loop-i.invariant c.loop-i-test.true (sym c.check_listed.ensures ∙ c.in-Accepted.is)
+loop-i-preserved c = let a = c.args in next (listed_check a.entries a.short a.finite a.pack.now) a.list.now c.loop-i.invariant c.loop-i-test.true (sym c.check_listed.ensures ∙ c.in-Ok.is)
 
 pub returns : goal.returns
 returns c = let a = c.args in end (listed_check a.entries a.short a.finite a.pack.now) a.list.now c.loop-i.invariant c.loop-i-test.false

@@ -1,4 +1,5 @@
 -- `pack::join` meets its contract. Assumes nothing.
+use Rattle.std.proofs.lemmas.Result.{err_from_is_err_and}
 use mathlib.Core.Path.{refl, sym, ◌∙◌}
 use Rattle.calls_figures.specs.Answers.{scratch_of}
 use Rattle.pack.specs.Pack.{rank_answer, tables}
@@ -7,24 +8,27 @@ use Rattle.pack.proofs.join.Goals as goal
 
 pub list_all-requires : goal.list_all-requires
 unfolding rank_answer
-list_all-requires c = sym c.check.ensures.answer ∙ c.in-Accepted.is
+list_all-requires c = sym c.check.ensures.answer ∙ c.in_ok-check.was
 
-pub returns-in-Refused : goal.returns-in-Refused
+pub returns-in_err-check : goal.returns-in_err-check
 unfolding rank_answer
-returns-in-Refused c =
-    let a = c.args in
-    let e = sym c.in-Refused.is ∙ c.check.ensures.answer in
-    record {
-      answer = e;
-      leaves = refused_leaves a.asked a.pack.now a.list.now (tables a.records.now a.values.now) (scratch_of a.aim.now a.aim_no_sliders.now a.speed.now a.flashlight.now) e;
-      pack = refl;
-    }
+returns-in_err-check c =
+    let p = err_from_is_err_and c.from_residual.result c.from_residual.ensures.1 in
+    rw (p.1, p.2) (
+      let a = c.args in
+      let e = sym c.in_err-check.was ∙ c.check.ensures.answer in
+      record {
+        answer = e;
+        leaves = refused_leaves a.asked a.pack.now a.list.now (tables a.records.now a.values.now) (scratch_of a.aim.now a.aim_no_sliders.now a.speed.now a.flashlight.now) e;
+        pack = refl;
+      }
+    )
 
-pub returns-in-Accepted : goal.returns-in-Accepted
+pub returns : goal.returns
 unfolding rank_answer
-returns-in-Accepted c =
+returns c =
     let a = c.args in
-    let e = sym c.in-Accepted.is ∙ c.check.ensures.answer in
+    let e = sym c.in_ok-check.was ∙ c.check.ensures.answer in
     record {
       answer = e;
       leaves = c.list_all.ensures ∙ carried_leaves a.asked a.pack.now a.list.now (tables a.records.now a.values.now) (scratch_of a.aim.now a.aim_no_sliders.now a.speed.now a.flashlight.now) e;

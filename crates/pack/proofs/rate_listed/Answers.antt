@@ -1,10 +1,10 @@
 -- `pack::rate_listed` meets its contract. Assumes nothing.
+use Rattle.std.specs.Prelude.{Ok}
 use borrow.Author.Rules.{rules}
 use mathlib.Core.Path.{◌≡◌, sym, ap, ◌∙◌, subst}
 use mathlib.Core.List.{List}
 use Prim.Native.Nat.{ℕ}
 use lib.ListN.{length}
-use Rattle.chart_opening.specs.declared.Verdict.TheVariants.{Accepted}
 use Rattle.calls.specs.Conditions.{lengths}
 use Rattle.calls_figures.specs.Answers.{scratch_of}
 use Rattle.pack.specs.Pack.{key_of, chart_verdict, opened_into, tables}
@@ -25,7 +25,7 @@ pub rate_chart-requires : goal.rate_chart-requires
 rate_chart-requires c =
     let a = c.args in
     subst (λ (b : List ℕ). chart_verdict a.asked (length a.records.now) (length a.values.now)
-    (lengths (scratch_of a.aim.now a.aim_no_sliders.now a.speed.now a.flashlight.now)) b ≡ Accepted)
+    (lengths (scratch_of a.aim.now a.aim_no_sliders.now a.speed.now a.flashlight.now)) b ≡ Ok tt)
     (sym (part_chart a.pack.now a.at c.length_at.ensures)) (lies _ _ _ _ _ _ c.requires).1
 
 pub returns : goal.returns

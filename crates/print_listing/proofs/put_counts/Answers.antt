@@ -10,15 +10,15 @@ use Rattle.calls_figures.specs.Answers.{scratch_of, counts_answer}
 use Rattle.print_listing.proofs.Calls.{figure_carried_out, counts_are_lem}
 use Rattle.print_listing.proofs.put_counts.Goals as goal
 
-pub returns-in-Refused : goal.returns-in-Refused
+pub returns-in-Err : goal.returns-in-Err
 unfolding asked_conditions first_of
-returns-in-Refused c =
+returns-in-Err c =
     let a = c.args in
     let m = c.requires in
-    absurd (figure_carried_out a.chart.now a.values.now m.0 (scratch_of a.aim.now a.aim_no_sliders.now a.speed.now a.flashlight.now) m.1 counts refl _ (ap counts_answer (sym c.in-Refused.is) ∙ ap (λ (x : Outcome). x.answer) c.counts.ensures.answer))
+    absurd (figure_carried_out a.chart.now a.values.now m.0 (scratch_of a.aim.now a.aim_no_sliders.now a.speed.now a.flashlight.now) m.1 counts refl _ (ap counts_answer (sym c.in-Err.is) ∙ ap (λ (x : Outcome). x.answer) c.counts.ensures.answer))
 
-pub returns-in-Counts : goal.returns-in-Counts
-returns-in-Counts c =
+pub returns-in-Ok : goal.returns-in-Ok
+returns-in-Ok c =
     let a = c.args in
     let m = c.requires in
-    same_text (ap counts_text (counts_are_lem a.chart.now a.values.now m.0 (scratch_of a.aim.now a.aim_no_sliders.now a.speed.now a.flashlight.now) m.1 _ (ap counts_answer (sym c.in-Counts.is) ∙ ap (λ (x : Outcome). x.answer) c.counts.ensures.answer))) c.put_counts.ensures
+    same_text (ap counts_text (counts_are_lem a.chart.now a.values.now m.0 (scratch_of a.aim.now a.aim_no_sliders.now a.speed.now a.flashlight.now) m.1 _ (ap counts_answer (sym c.in-Ok.is) ∙ ap (λ (x : Outcome). x.answer) c.counts.ensures.answer))) c.put_counts.ensures

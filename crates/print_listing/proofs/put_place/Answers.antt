@@ -6,12 +6,12 @@ use Rattle.print_lines.specs.Lines.{place_text}
 use Rattle.print_listing.proofs.Calls.{read_row, read_carried_out}
 use Rattle.print_listing.proofs.put_place.Goals as goal
 
-pub returns-in-Refused : goal.returns-in-Refused
-returns-in-Refused c =
+pub returns-in-Err : goal.returns-in-Err
+returns-in-Err c =
     let a = c.args in
-    absurd (read_carried_out a.chart.now a.values.now c.requires.0 a.j c.requires.1 c.requires.2 _ _ c.in-Refused.is (ap (λ (x : Outcome). x.answer) c.read_values.ensures))
+    absurd (read_carried_out a.chart.now a.values.now c.requires.0 a.j c.requires.1 c.requires.2 _ _ c.in-Err.is (ap (λ (x : Outcome). x.answer) c.read_values.ensures))
 
-pub returns-in-Values : goal.returns-in-Values
-returns-in-Values c =
+pub returns-in-Ok : goal.returns-in-Ok
+returns-in-Ok c =
     let a = c.args in
-    same_text (ap (place_text a.j) (read_row a.chart.now a.values.now c.requires.0 a.j c.requires.1 c.requires.2 _ _ c.in-Values.is (ap (λ (x : Outcome). x.answer) c.read_values.ensures))) c.put_values.ensures
+    same_text (ap (place_text a.j) (read_row a.chart.now a.values.now c.requires.0 a.j c.requires.1 c.requires.2 _ _ c.in-Ok.is (ap (λ (x : Outcome). x.answer) c.read_values.ensures))) c.put_values.ensures

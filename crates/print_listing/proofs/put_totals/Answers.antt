@@ -10,15 +10,15 @@ use Rattle.calls_figures.specs.Answers.{scratch_of, totals_answer}
 use Rattle.print_listing.proofs.Calls.{figure_carried_out, totals_are_lem}
 use Rattle.print_listing.proofs.put_totals.Goals as goal
 
-pub returns-in-Refused : goal.returns-in-Refused
+pub returns-in-Err : goal.returns-in-Err
 unfolding asked_conditions first_of
-returns-in-Refused c =
+returns-in-Err c =
     let a = c.args in
     let m = c.requires in
-    absurd (figure_carried_out a.chart.now a.values.now m.0 (scratch_of a.aim.now a.aim_no_sliders.now a.speed.now a.flashlight.now) m.1 totals refl _ (ap totals_answer (sym c.in-Refused.is) ∙ ap (λ (x : Outcome). x.answer) c.totals.ensures.answer))
+    absurd (figure_carried_out a.chart.now a.values.now m.0 (scratch_of a.aim.now a.aim_no_sliders.now a.speed.now a.flashlight.now) m.1 totals refl _ (ap totals_answer (sym c.in-Err.is) ∙ ap (λ (x : Outcome). x.answer) c.totals.ensures.answer))
 
-pub returns-in-Totals : goal.returns-in-Totals
-returns-in-Totals c =
+pub returns-in-Ok : goal.returns-in-Ok
+returns-in-Ok c =
     let a = c.args in
     let m = c.requires in
-    same_text (ap totals_text (totals_are_lem a.chart.now a.values.now m.0 (scratch_of a.aim.now a.aim_no_sliders.now a.speed.now a.flashlight.now) m.1 _ (ap totals_answer (sym c.in-Totals.is) ∙ ap (λ (x : Outcome). x.answer) c.totals.ensures.answer))) c.put_totals.ensures
+    same_text (ap totals_text (totals_are_lem a.chart.now a.values.now m.0 (scratch_of a.aim.now a.aim_no_sliders.now a.speed.now a.flashlight.now) m.1 _ (ap totals_answer (sym c.in-Ok.is) ∙ ap (λ (x : Outcome). x.answer) c.totals.ensures.answer))) c.put_totals.ensures

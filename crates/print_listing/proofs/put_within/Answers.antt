@@ -7,18 +7,18 @@ pub put_opened-requires : goal.put_opened-requires
 put_opened-requires c =
     let a = c.args in
     let m = c.requires.chart_len_bound in (
-      accepted_filled a.chart.now a.records.now a.values.now m.0 m.1 _ c.in-Accepted.is c.open.ensures.answer _ c.open.ensures.leaves,
+      accepted_filled a.chart.now a.records.now a.values.now m.0 m.1 _ c.in-Ok.is c.open.ensures.answer _ c.open.ensures.leaves,
       c.requires.scratch_room,
     )
 
-pub returns-in-Refused : goal.returns-in-Refused
-returns-in-Refused c =
+pub returns-in-Err : goal.returns-in-Err
+returns-in-Err c =
     let a = c.args in
     let m = c.requires.chart_len_bound in
-    same_text (refused_text a.chart.now a.records.now a.values.now m.0 m.1 _ _ c.in-Refused.is c.open.ensures.answer) c.put_refusal.ensures
+    same_text (refused_text a.chart.now a.records.now a.values.now m.0 m.1 _ _ c.in-Err.is c.open.ensures.answer) c.put_refusal.ensures
 
-pub returns-in-Accepted : goal.returns-in-Accepted
-returns-in-Accepted c =
+pub returns-in-Ok : goal.returns-in-Ok
+returns-in-Ok c =
     let a = c.args in
     let m = c.requires.chart_len_bound in
-    same_text (accepted_text a.chart.now a.records.now a.values.now m.0 m.1 _ c.in-Accepted.is c.open.ensures.answer) c.put_opened.ensures
+    same_text (accepted_text a.chart.now a.records.now a.values.now m.0 m.1 _ c.in-Ok.is c.open.ensures.answer) c.put_opened.ensures

@@ -7,24 +7,24 @@ use Rattle.pack.specs.Pack.{tables, buffers}
 use Rattle.station.specs.Codes.{verdict_code, numbers_width, rank_verdict_into, rank_into}
 use Rattle.station.proofs.difficulty_join.Goals as goal
 
-pub returns-in-Refused : goal.returns-in-Refused
-returns-in-Refused c =
+pub returns-in-Err : goal.returns-in-Err
+returns-in-Err c =
     let a = c.args in
     let x = (buffers a.list.now (tables a.records.now a.values.now) (scratch_of a.aim.now a.aim_no_sliders.now a.speed.now a.flashlight.now)) in
     let e = c.join_into.ensures in
     let k = c.asked_of-asked.ensures in
     let few = ltb (length a.numbers.now) numbers_width in record {
-      answer = c.code.ensures ∙ ap verdict_code (sym c.in-Refused.is ∙ (e.answer ∙ (λ i. rank_verdict_into (k i) few a.pack.now x)));
+      answer = c.code.ensures ∙ ap verdict_code (sym c.in-Err.is ∙ (e.answer ∙ (λ i. rank_verdict_into (k i) few a.pack.now x)));
       leaves = e.leaves ∙ (λ i. rank_into (k i) few a.pack.now x);
     }
 
-pub returns-in-Accepted : goal.returns-in-Accepted
-returns-in-Accepted c =
+pub returns-in-Ok : goal.returns-in-Ok
+returns-in-Ok c =
     let a = c.args in
     let x = (buffers a.list.now (tables a.records.now a.values.now) (scratch_of a.aim.now a.aim_no_sliders.now a.speed.now a.flashlight.now)) in
     let e = c.join_into.ensures in
     let k = c.asked_of-asked.ensures in
     let few = ltb (length a.numbers.now) numbers_width in record {
-      answer = ap verdict_code (sym c.in-Accepted.is ∙ (e.answer ∙ (λ i. rank_verdict_into (k i) few a.pack.now x)));
+      answer = ap verdict_code (sym c.in-Ok.is ∙ (e.answer ∙ (λ i. rank_verdict_into (k i) few a.pack.now x)));
       leaves = e.leaves ∙ (λ i. rank_into (k i) few a.pack.now x);
     }

@@ -4,7 +4,7 @@ use lib.ListN.{length}
 use Rattle.num_tables.specs.Parts.{part}
 use Rattle.calls.specs.Calls.{state}
 use Rattle.chart_opening.specs.Conditions.{if_accepted}
-use Rattle.chart_opening.specs.declared.Verdict.{Verdict}
+use Rattle.chart_opening.specs.Verdict.{Verdict}
 use Rattle.calls.specs.Calls.{opened, open_answer, open_leaves}
 use Rattle.calls_players.proofs.Own.{opening_short, own_opening, own_leaves}
 use Rattle.station.specs.Codes.{verdict_code}

@@ -11,22 +11,22 @@ use Rattle.station.proofs.difficulty_read_aim_parts_as.Goals as goal
 pub put_aim-requires : goal.put_aim-requires
 put_aim-requires c =
     let a = c.args in
-    let p = sym (ap aim_answer c.in-Aim.is) ∙ ap (λ (x : Outcome). x.answer) c.aim_into_as.ensures in
+    let p = sym (ap aim_answer c.in-Ok.is) ∙ ap (λ (x : Outcome). x.answer) c.aim_into_as.ensures in
     into_room_as _ aim_width (length a.out.now) _ _ _ (no_detail _) p
 
-pub returns-in-Refused : goal.returns-in-Refused
-returns-in-Refused c =
+pub returns-in-Err : goal.returns-in-Err
+returns-in-Err c =
     let a = c.args in
-    let p = sym (ap aim_answer c.in-Refused.is) ∙ ap (λ (x : Outcome). x.answer) c.aim_into_as.ensures in
+    let p = sym (ap aim_answer c.in-Err.is) ∙ ap (λ (x : Outcome). x.answer) c.aim_into_as.ensures in
     record {
       answer = c.code.ensures ∙ ap answer_code p;
       out = put_none a.out.now ∙ ap (λ (x : Answer). put 0 (numbers_of x) a.out.now) p;
     }
 
-pub returns-in-Aim : goal.returns-in-Aim
-returns-in-Aim c =
+pub returns-in-Ok : goal.returns-in-Ok
+returns-in-Ok c =
     let a = c.args in
-    let p = sym (ap aim_answer c.in-Aim.is) ∙ ap (λ (x : Outcome). x.answer) c.aim_into_as.ensures in
+    let p = sym (ap aim_answer c.in-Ok.is) ∙ ap (λ (x : Outcome). x.answer) c.aim_into_as.ensures in
     record {
       answer = ap answer_code p;
       out = c.put_aim.ensures ∙ ap (λ (x : Answer). put 0 (numbers_of x) a.out.now) p;

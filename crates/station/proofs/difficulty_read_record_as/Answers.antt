@@ -12,22 +12,22 @@ use Rattle.station.proofs.difficulty_read_record_as.Goals as goal
 pub put_record-requires : goal.put_record-requires
 put_record-requires c =
     let a = c.args in
-    let p = sym (ap record_answer c.in-Record.is) ∙ ap (λ (x : Outcome). x.answer) c.record_into_as.ensures in
+    let p = sym (ap record_answer c.in-Ok.is) ∙ ap (λ (x : Outcome). x.answer) c.record_into_as.ensures in
     (omega arith, omega (arith, into_room_as _ 16 (length a.out.now) _ _ _ (no_record _) p))
 
-pub returns-in-Refused : goal.returns-in-Refused
-returns-in-Refused c =
+pub returns-in-Err : goal.returns-in-Err
+returns-in-Err c =
     let a = c.args in
-    let p = sym (ap record_answer c.in-Refused.is) ∙ ap (λ (x : Outcome). x.answer) c.record_into_as.ensures in
+    let p = sym (ap record_answer c.in-Err.is) ∙ ap (λ (x : Outcome). x.answer) c.record_into_as.ensures in
     record {
       answer = c.code.ensures ∙ ap answer_code p;
       out = put_none a.out.now ∙ ap (λ (x : Answer). put 0 (numbers_of x) a.out.now) p;
     }
 
-pub returns-in-Record : goal.returns-in-Record
-returns-in-Record c =
+pub returns-in-Ok : goal.returns-in-Ok
+returns-in-Ok c =
     let a = c.args in
-    let p = sym (ap record_answer c.in-Record.is) ∙ ap (λ (x : Outcome). x.answer) c.record_into_as.ensures in
+    let p = sym (ap record_answer c.in-Ok.is) ∙ ap (λ (x : Outcome). x.answer) c.record_into_as.ensures in
     record {
       answer = ap answer_code p;
       out = c.put_record.ensures ∙ ap (λ (x : Answer). put 0 (numbers_of x) a.out.now) p;

@@ -12,32 +12,32 @@ use Rattle.station.proofs.difficulty_read_rhythm_as.Goals as goal
 
 pub bounds-out-0 : goal.bounds-out-0
 bounds-out-0 c =
-    let h = into_room_as _ rhythm_width (length c.args.out.now) _ _ _ (no_detail _) (sym (ap rhythm_answer c.in-Rhythm.is) ∙ ap (λ (x : Outcome). x.answer) c.rhythm_into_as.ensures) in
+    let h = into_room_as _ rhythm_width (length c.args.out.now) _ _ _ (no_detail _) (sym (ap rhythm_answer c.in-Ok.is) ∙ ap (λ (x : Outcome). x.answer) c.rhythm_into_as.ensures) in
     omega (arith, h)
 
 pub overflow_cast-out : goal.overflow_cast-out
 overflow_cast-out c =
-    let h = few_compared _ _ (length c.args.out.now) c.args.place _ _ (sym (ap rhythm_answer c.in-Rhythm.is) ∙ ap (λ (x : Outcome). x.answer) c.rhythm_into_as.ensures) in
+    let h = few_compared _ _ (length c.args.out.now) c.args.place _ _ (sym (ap rhythm_answer c.in-Ok.is) ∙ ap (λ (x : Outcome). x.answer) c.rhythm_into_as.ensures) in
     omega (arith, h)
 
 pub bounds-out-1 : goal.bounds-out-1
 bounds-out-1 c =
-    let h = into_room_as _ rhythm_width (length c.args.out.now) _ _ _ (no_detail _) (sym (ap rhythm_answer c.in-Rhythm.is) ∙ ap (λ (x : Outcome). x.answer) c.rhythm_into_as.ensures) in
+    let h = into_room_as _ rhythm_width (length c.args.out.now) _ _ _ (no_detail _) (sym (ap rhythm_answer c.in-Ok.is) ∙ ap (λ (x : Outcome). x.answer) c.rhythm_into_as.ensures) in
     simp length-set (omega (arith, h))
 
-pub returns-in-Refused : goal.returns-in-Refused
-returns-in-Refused c =
+pub returns-in-Err : goal.returns-in-Err
+returns-in-Err c =
     let a = c.args in
-    let p = sym (ap rhythm_answer c.in-Refused.is) ∙ ap (λ (x : Outcome). x.answer) c.rhythm_into_as.ensures in
+    let p = sym (ap rhythm_answer c.in-Err.is) ∙ ap (λ (x : Outcome). x.answer) c.rhythm_into_as.ensures in
     record {
       answer = c.code.ensures ∙ ap answer_code p;
       out = put_none a.out.now ∙ ap (λ (x : Answer). put 0 (numbers_of x) a.out.now) p;
     }
 
-pub returns-in-Rhythm : goal.returns-in-Rhythm
-returns-in-Rhythm c =
+pub returns-in-Ok : goal.returns-in-Ok
+returns-in-Ok c =
     let a = c.args in
-    let p = sym (ap rhythm_answer c.in-Rhythm.is) ∙ ap (λ (x : Outcome). x.answer) c.rhythm_into_as.ensures in
+    let p = sym (ap rhythm_answer c.in-Ok.is) ∙ ap (λ (x : Outcome). x.answer) c.rhythm_into_as.ensures in
     let h = into_room_as _ rhythm_width (length a.out.now) _ _ _ (no_detail _) p in
     record {
       answer = ap answer_code p;

@@ -12,22 +12,22 @@ use Rattle.station.proofs.difficulty_read_values_as.Goals as goal
 pub put_values-requires : goal.put_values-requires
 put_values-requires c =
     let a = c.args in
-    let p = sym (ap values_answer c.in-Values.is) ∙ ap (λ (x : Outcome). x.answer) c.values_into_as.ensures in
+    let p = sym (ap values_answer c.in-Ok.is) ∙ ap (λ (x : Outcome). x.answer) c.values_into_as.ensures in
     (omega arith, omega (arith, into_room_as _ 5 (length a.out.now) _ _ _ (no_values _) p))
 
-pub returns-in-Refused : goal.returns-in-Refused
-returns-in-Refused c =
+pub returns-in-Err : goal.returns-in-Err
+returns-in-Err c =
     let a = c.args in
-    let p = sym (ap values_answer c.in-Refused.is) ∙ ap (λ (x : Outcome). x.answer) c.values_into_as.ensures in
+    let p = sym (ap values_answer c.in-Err.is) ∙ ap (λ (x : Outcome). x.answer) c.values_into_as.ensures in
     record {
       answer = c.code.ensures ∙ ap answer_code p;
       out = put_none a.out.now ∙ ap (λ (x : Answer). put 0 (numbers_of x) a.out.now) p;
     }
 
-pub returns-in-Values : goal.returns-in-Values
-returns-in-Values c =
+pub returns-in-Ok : goal.returns-in-Ok
+returns-in-Ok c =
     let a = c.args in
-    let p = sym (ap values_answer c.in-Values.is) ∙ ap (λ (x : Outcome). x.answer) c.values_into_as.ensures in
+    let p = sym (ap values_answer c.in-Ok.is) ∙ ap (λ (x : Outcome). x.answer) c.values_into_as.ensures in
     record {
       answer = ap answer_code p;
       out = c.put_values.ensures ∙ ap (λ (x : Answer). put 0 (numbers_of x) a.out.now) p;

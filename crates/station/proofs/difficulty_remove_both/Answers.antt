@@ -3,14 +3,14 @@ use mathlib.Core.Path.{sym, ap, ◌∙◌}
 use Rattle.station.specs.Codes.{verdict_code}
 use Rattle.station.proofs.difficulty_remove_both.Goals as goal
 
-pub returns-in-Refused : goal.returns-in-Refused
-returns-in-Refused c = let e = c.remove_both.ensures in record {
-  answer = c.code.ensures ∙ ap verdict_code (sym c.in-Refused.is ∙ e.answer);
+pub returns-in-Err : goal.returns-in-Err
+returns-in-Err c = let e = c.remove_both.ensures in record {
+  answer = c.code.ensures ∙ ap verdict_code (sym c.in-Err.is ∙ e.answer);
   leaves = e.leaves;
 }
 
-pub returns-in-Accepted : goal.returns-in-Accepted
-returns-in-Accepted c = let e = c.remove_both.ensures in record {
-  answer = ap verdict_code (sym c.in-Accepted.is ∙ e.answer);
+pub returns-in-Ok : goal.returns-in-Ok
+returns-in-Ok c = let e = c.remove_both.ensures in record {
+  answer = ap verdict_code (sym c.in-Ok.is ∙ e.answer);
   leaves = e.leaves;
 }

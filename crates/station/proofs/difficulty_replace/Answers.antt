@@ -5,18 +5,18 @@ use Rattle.calls.specs.Calls.{Outcome}
 use Rattle.station.specs.Codes.{answer_code}
 use Rattle.station.proofs.difficulty_replace.Goals as goal
 
-pub returns-in-Refused : goal.returns-in-Refused
-returns-in-Refused c =
+pub returns-in-Err : goal.returns-in-Err
+returns-in-Err c =
     let e = c.replace.ensures in
     record {
-      answer = c.code.ensures ∙ ap answer_code (ap replace_answer (sym c.in-Refused.is) ∙ ap (λ (x : Outcome). x.answer) e);
+      answer = c.code.ensures ∙ ap answer_code (ap replace_answer (sym c.in-Err.is) ∙ ap (λ (x : Outcome). x.answer) e);
       leaves = ap (λ (x : Outcome). x.leaves) e;
     }
 
-pub returns-in-Accepted : goal.returns-in-Accepted
-returns-in-Accepted c =
+pub returns-in-Ok : goal.returns-in-Ok
+returns-in-Ok c =
     let e = c.replace.ensures in
     record {
-      answer = ap answer_code (ap replace_answer (sym c.in-Accepted.is) ∙ ap (λ (x : Outcome). x.answer) e);
+      answer = ap answer_code (ap replace_answer (sym c.in-Ok.is) ∙ ap (λ (x : Outcome). x.answer) e);
       leaves = ap (λ (x : Outcome). x.leaves) e;
     }

@@ -12,25 +12,25 @@ use Rattle.station.proofs.difficulty_totals_as.Goals as goal
 pub put_totals-requires : goal.put_totals-requires
 put_totals-requires c =
     let a = c.args in
-    let p = sym (ap totals_answer c.in-Totals.is) ∙ ap (λ (x : Outcome). x.answer) c.totals_into.ensures.answer in
+    let p = sym (ap totals_answer c.in-Ok.is) ∙ ap (λ (x : Outcome). x.answer) c.totals_into.ensures.answer in
     ltb-false _ _ (figure_room a.settings.now totals _ (scratch_of a.aim.now a.aim_no_sliders.now a.speed.now a.flashlight.now) a.chart.now a.values.now _ p)
 
-pub returns-in-Refused : goal.returns-in-Refused
-returns-in-Refused c =
+pub returns-in-Err : goal.returns-in-Err
+returns-in-Err c =
     let a = c.args in
     let e = c.totals_into.ensures in
-    let p = sym (ap totals_answer c.in-Refused.is) ∙ ap (λ (x : Outcome). x.answer) e.answer in
+    let p = sym (ap totals_answer c.in-Err.is) ∙ ap (λ (x : Outcome). x.answer) e.answer in
     record {
       answer = c.code.ensures ∙ ap answer_code p;
       scratch = e.scratch;
       out = put_none a.out.now ∙ ap (λ (x : Answer). put 0 (numbers_of x) a.out.now) p;
     }
 
-pub returns-in-Totals : goal.returns-in-Totals
-returns-in-Totals c =
+pub returns-in-Ok : goal.returns-in-Ok
+returns-in-Ok c =
     let a = c.args in
     let e = c.totals_into.ensures in
-    let p = sym (ap totals_answer c.in-Totals.is) ∙ ap (λ (x : Outcome). x.answer) e.answer in
+    let p = sym (ap totals_answer c.in-Ok.is) ∙ ap (λ (x : Outcome). x.answer) e.answer in
     record {
       answer = ap answer_code p;
       scratch = e.scratch;

@@ -4,22 +4,22 @@ use borrow.Author.Rules.{rules}
 use Rattle.test_outer.proofs.answer.Goals as goal
 
 pub layout_of-lay-requires : goal.layout_of-lay-requires
-layout_of-lay-requires c = long _ 65 _ c.check.ensures c.in-Accepted.is
+layout_of-lay-requires c = long _ 65 _ c.check.ensures c.in-Ok.is
 
 pub settings_at-set-requires : goal.settings_at-set-requires
-settings_at-set-requires c = long _ 65 _ c.check.ensures c.in-Accepted.is
+settings_at-set-requires c = long _ 65 _ c.check.ensures c.in-Ok.is
 
 pub fill-requires : goal.fill-requires
 fill-requires c =
-    let f = fits _ 65 _ c.check.ensures c.in-Accepted.is _ c.layout_of-lay.ensures in
+    let f = fits _ 65 _ c.check.ensures c.in-Ok.is _ c.layout_of-lay.ensures in
     (f.ready, f.record_room _ (search rules))
 
 pub records_of-requires : goal.records_of-requires
 records_of-requires c =
-    let f = fits _ 65 _ c.check.ensures c.in-Accepted.is _ c.layout_of-lay.ensures in
+    let f = fits _ 65 _ c.check.ensures c.in-Ok.is _ c.layout_of-lay.ensures in
     (f.few, search rules)
 
 pub show_values-requires : goal.show_values-requires
 show_values-requires c =
-    let f = fits _ 65 _ c.check.ensures c.in-Accepted.is _ c.layout_of-lay.ensures in
+    let f = fits _ 65 _ c.check.ensures c.in-Ok.is _ c.layout_of-lay.ensures in
     (f.ready, f.few)
