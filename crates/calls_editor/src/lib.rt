@@ -163,7 +163,7 @@ fn records_up(records: &mut [f64], from: usize, to: usize)
     ensures { records.new ≡ rows_up record_width from to records.old }
 {
     if from < to {
-        num_tables::move_numbers_up(
+        num_tables::move_part(
             records,
             calls::RECORD_WIDTH * from,
             calls::RECORD_WIDTH * (from + 1),
@@ -179,7 +179,7 @@ fn records_down(records: &mut [f64], from: usize, to: usize)
 {
     let next = from + 1;
     if next < to {
-        num_tables::move_numbers_down(
+        num_tables::move_part(
             records,
             calls::RECORD_WIDTH * next,
             calls::RECORD_WIDTH * from,
@@ -194,7 +194,7 @@ fn values_up(values: &mut [f64], from: usize, to: usize)
     ensures { values.new ≡ rows_up value_width from to values.old }
 {
     if from < to {
-        num_tables::move_numbers_up(
+        num_tables::move_part(
             values,
             calls::VALUE_WIDTH * from,
             calls::VALUE_WIDTH * (from + 1),
@@ -210,7 +210,7 @@ fn values_down(values: &mut [f64], from: usize, to: usize)
 {
     let next = from + 1;
     if next < to {
-        num_tables::move_numbers_down(
+        num_tables::move_part(
             values,
             calls::VALUE_WIDTH * next,
             calls::VALUE_WIDTH * from,

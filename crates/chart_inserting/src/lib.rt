@@ -122,7 +122,7 @@ pub fn put_in(chart: &mut [u8], place: usize, object: &[u8])
     let end = num_floats::count_at(chart, 24);
     let size = lay.object_size;
     let at = chart_fields::HEADER_SIZE + size * place;
-    num_tables::move_bytes_up(chart, at, at + size, end - at);
+    num_tables::move_part(chart, at, at + size, end - at);
     chart_replacing::put(chart, at, object);
     recount(chart, lay, lay.n + 1);
 }
@@ -222,7 +222,7 @@ pub fn take_out(chart: &mut [u8], place: usize)
     let size = lay.object_size;
     let at = chart_fields::HEADER_SIZE + size * place;
     let next = at + size;
-    num_tables::move_bytes_down(chart, next, at, end - next);
+    num_tables::move_part(chart, next, at, end - next);
     recount(chart, lay, lay.n - 1);
 }
 

@@ -3,13 +3,13 @@
 use Rattle.std.specs.Prelude.{◌≡◌, take, drop}
 use Rattle.std.proofs.Math.Path.{sym, ap}
 use Rattle.std.proofs.Common.{◌∙◌, mul-zero, mul-le-mul_left, take-append-drop, take-take, drop-drop}
-use mathlib.Core.List.{List, ◌++◌}
+use mathlib.Core.List.{List, ◌++◌, append_assoc}
 use Prim.Native.Nat.{ℕ, suc, ◌+◌, ◌-◌, ◌*◌, ◌≤◌, ◌<◌}
 use Rattle.std.proofs.Math.Nat.{add-zero, mul-add}
 use native.Mathlib.Omega.{arith}
 use Rattle.std.proofs.Math.Decide.{dec_lt}
 use Rattle.std.proofs.Math.ListN.{length, length-drop}
-use Rattle.std.proofs.Math.Seq.{length-take-le}
+use Rattle.std.proofs.Math.Seq.{length-take-le, paste}
 use Rattle.num_tables.specs.Parts.{part, put, moved, row, rows_up, rows_down}
 use Rattle.num_tables.proofs.Rows.{rows_apart, part_append, put_append, take-drop, length_put, take_put, drop_put, part_put_same, part_put_before, part_put_after}
 
@@ -30,6 +30,13 @@ module _ {ℓ} {A : Type ℓ} where
   pub moved_none : (from to : ℕ) (l : List A) → moved from to 0 l ≡ l
   unfolding moved put part
   moved_none from to l = rw add-zero (take-append-drop to l)
+
+  -- the library's copying within a slice
+  pub copied_moved : (from to n : ℕ) (l : List A) → from + n ≤ length l → paste l to (drop from l) (from + n - from) ≡ moved from to n l
+  unfolding moved put part
+  copied_moved from to n l h =
+      let e : from + n - from ≡ n = omega arith in
+      rw (e, length_part from n l h) (append_assoc (take to l) (take n (drop from l)) (drop (to + n) l))
 
   -- both parts lie within the list
   module _ (from to n : ℕ) (l : List A) (hf : from + n ≤ length l) (ht : to + n ≤ length l) where

@@ -22,8 +22,8 @@ overflow_add-at-2 c = rw c.layout_of-lay.ensures (omega (arith, W.put_fits c.req
 pub overflow_sub-end : goal.overflow_sub-end
 overflow_sub-end c = rw c.layout_of-lay.ensures (omega (arith, W.put_starts c.requires, c.count_at-end.ensures))
 
-pub move_bytes_up-requires : goal.move_bytes_up-requires
-move_bytes_up-requires c = (omega arith, rw c.layout_of-lay.ensures (omega (arith, W.put_fits c.requires, c.count_at-end.ensures)))
+pub move_part-requires : goal.move_part-requires
+move_part-requires c = rw c.layout_of-lay.ensures (omega (arith, W.put_fits c.requires, c.count_at-end.ensures), omega (arith, W.put_fits c.requires, c.count_at-end.ensures))
 
 pub put-requires : goal.put-requires
 put-requires c = rw c.layout_of-lay.ensures (omega (arith, W.put_fits c.requires, c.requires.long))
@@ -36,4 +36,4 @@ recount-requires c = (omega (arith, W.long _ c.requires.opens), rw c.layout_of-l
 
 pub returns : goal.returns
 unfolding insert_object
-returns c = cc (c.recount.ensures, c.put.ensures, c.move_bytes_up.ensures, c.layout_of-lay.ensures, c.count_at-end.ensures)
+returns c = cc (c.recount.ensures, c.put.ensures, c.move_part.ensures, c.layout_of-lay.ensures, c.count_at-end.ensures)

@@ -22,8 +22,8 @@ overflow_add-next c = rw c.layout_of-lay.ensures (omega (arith, W.take_fits c.re
 pub overflow_sub-end : goal.overflow_sub-end
 overflow_sub-end c = rw c.layout_of-lay.ensures (omega (arith, W.take_ends c.requires, c.count_at-end.ensures))
 
-pub move_bytes_down-requires : goal.move_bytes_down-requires
-move_bytes_down-requires c = (omega arith, rw c.layout_of-lay.ensures (omega (arith, W.take_fits c.requires, c.count_at-end.ensures)))
+pub move_part-requires : goal.move_part-requires
+move_part-requires c = rw c.layout_of-lay.ensures (omega (arith, W.take_fits c.requires, c.count_at-end.ensures), omega (arith, W.take_fits c.requires, W.take_ends c.requires, c.count_at-end.ensures))
 
 pub overflow_sub-lay : goal.overflow_sub-lay
 overflow_sub-lay c = rw c.layout_of-lay.ensures (omega (arith, c.requires.below))
@@ -33,4 +33,4 @@ recount-requires c = (omega (arith, W.long _ c.requires.opens), rw c.layout_of-l
 
 pub returns : goal.returns
 unfolding remove_object
-returns c = cc (c.recount.ensures, c.move_bytes_down.ensures, c.layout_of-lay.ensures, c.count_at-end.ensures)
+returns c = cc (c.recount.ensures, c.move_part.ensures, c.layout_of-lay.ensures, c.count_at-end.ensures)
