@@ -10,6 +10,7 @@ use Rattle.chart_opening.specs.Header.{header_ok}
 use Rattle.chart_opening.specs.Conditions.{refusal_place, first_of, chart_conditions, open_conditions}
 use Rattle.chart_opening.specs.Accepted.{first_refused, header_ok_lem}
 use Rattle.chart_opening.specs.declared.Refusal.{Refusal}
+use Rattle.chart_opening.specs.Verdict.{Verdict}
 use Rattle.chart_opening.specs.declared.Refusal.TheVariants.{Header, Setting, Object, Entries, Order, Length, Table, Place, Room, NotFinite}
 use Rattle.chart_opening.proofs.Header.{holds}
 use Rattle.chart_replacing.specs.Replace.{put_object}
@@ -43,7 +44,7 @@ header_first : (b : List ℕ) → header_ok b ≡ false → first_of (chart_cond
 unfolding first_of chart_conditions
 header_first b h = simp h
 
-at_limit : (b : List ℕ) (q : Refusal) → (header_ok b ≡ false → Err Header ≡ Err q) → Placed b q → refusal_place q ≤ most_objects
+at_limit : (b : List ℕ) (q : Refusal) → (header_ok b ≡ false → ◌≡◌ {A = Verdict} (Err Header) (Err q)) → Placed b q → refusal_place q ≤ most_objects
 at_limit b q f p = go (header_ok b) refl
   where
     go : (t : Bool) → header_ok b ≡ t → refusal_place q ≤ most_objects

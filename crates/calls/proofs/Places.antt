@@ -26,7 +26,7 @@ use Rattle.calls.specs.Afresh.{Detail, Figure, totals, counts, totals_to, playin
 use Rattle.calls.specs.Conditions.{Lengths, scratch_short, replace, insert, remove, read_record, read_values, read_detail, figure, row_conditions, read_conditions, read_verdict, sum_conditions, asked_conditions, figure_conditions, opening, refusal}
 use Rattle.calls.specs.Statement.{Lowest, Placed, ReplacePlaced, of_chart, of_place, of_length, of_result, InsertPlaced, insert_of_chart, insert_of_place, insert_of_room, insert_of_length, insert_of_result, RemovePlaced, remove_of_chart, remove_of_place, remove_of_result}
 
-pub same_refusal : {q r : Refusal} → Err q ≡ Err r → q ≡ r
+pub same_refusal : {q r : Refusal} → ◌≡◌ {A = Verdict} (Err q) (Err r) → q ≡ r
 same_refusal e = cc
 
 -- P holds of every refusal that a list of conditions can give

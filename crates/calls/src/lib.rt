@@ -24,16 +24,14 @@ pub const SETTINGS_AT: usize = 32;
 pub fn entries_in(records: usize, values: usize) -> usize
     ensures { result ≡ entries_of records values }
 {
-    let records = records / RECORD_WIDTH;
-    let values = values / VALUE_WIDTH;
-    if values < records { values } else { records }
+    (records / RECORD_WIDTH).min(values / VALUE_WIDTH)
 }
 
 // Whether a slice of scratch is too short.
 pub fn scratch_short(aim: usize, aim_no_sliders: usize, speed: usize, flashlight: usize) -> bool
     ensures { result ≡ scratch_short (record { aim = aim; aim_no_sliders = aim_no_sliders; speed = speed; flashlight = flashlight }) }
 {
-    (aim < LEAST_SCRATCH)
-        | ((aim_no_sliders < LEAST_SCRATCH)
-            | ((speed < LEAST_SCRATCH) | (flashlight < LEAST_SCRATCH)))
+    [aim, aim_no_sliders, speed, flashlight]
+        .iter()
+        .any(|length| *length < LEAST_SCRATCH)
 }
