@@ -15,9 +15,7 @@ fn next_root(t: u64) -> u64
     ensures { Largest (t * 2 ^ 62) result }
 {
     let mut r: u64 = 0;
-    let mut left: u32 = 63;
-    while 0 < left {
-        left -= 1;
+    for left in (0..63u32).rev() {
         let c = r + (1 << left);
         if num_elementary::mul_shift62(c - 1, c + 1) < t {
             r = c;
@@ -32,11 +30,9 @@ pub fn table() -> [u64; 40]
 {
     let mut roots = [0u64; 40];
     let mut t = FIRST;
-    let mut i = 0;
-    while i < 40 {
+    for root in &mut roots {
         t = next_root(t);
-        roots[i] = t;
-        i += 1;
+        *root = t;
     }
     roots
 }

@@ -5,6 +5,3 @@ use Rattle.num_two_table.proofs.next_root.Given as goal
 
 abbrev pub invariant-loop-left : goal.invariant-loop-left
 invariant-loop-left l = (l.left ≤ 63) × (l.r + 2 ^ l.left ≤ 2 ^ 63) × (square l.r ≤ l.t * 2 ^ 62) × (l.t * 2 ^ 62 < square (l.r + 2 ^ l.left))
-
-abbrev pub decreases-loop-left : goal.decreases-loop-left
-decreases-loop-left l = l.left
