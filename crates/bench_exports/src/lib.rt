@@ -34,13 +34,13 @@ pub extern "C" fn rattle_exp(x: f64) -> f64 {
 // The root of an f64.
 #[unsafe(no_mangle)]
 pub extern "C" fn rattle_root64(x: f64) -> f64 {
-    num_roots::root64(x)
+    num_roots::root(x)
 }
 
 // The root of an f32.
 #[unsafe(no_mangle)]
 pub extern "C" fn rattle_root32(x: f32) -> f32 {
-    num_roots::root32(x)
+    num_roots::root(x)
 }
 
 // Angle of the rules.

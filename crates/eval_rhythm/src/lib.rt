@@ -155,7 +155,7 @@ fn run(
 fn value(sum: f64, tap: f64) -> f64
     ensures { result ≡ value_of sum tap }
 {
-    num_roots::root64(4.0 + sum * RHYTHM_OVERALL_MULTIPLIER) / 2.0 * (1.0 - tap)
+    num_roots::root(4.0 + sum * RHYTHM_OVERALL_MULTIPLIER) / 2.0 * (1.0 - tap)
 }
 
 // The value at place j and its comparisons, from a part of the record table.

@@ -216,7 +216,7 @@ impl RhythmState {
     {
         let island = RhythmIsland::new_with_delta(delta, eps);
         let prev_island = self.island;
-        let root = num_roots::root64(ratio * self.start_ratio);
+        let root = num_roots::root(ratio * self.start_ratio);
         Self {
             island,
             prev_island,

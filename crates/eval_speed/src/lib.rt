@@ -58,7 +58,7 @@ fn dist_bonus(dist: f64, small_circle_bonus: f64, autopilot: bool) -> f64
     }
     let dist = num_floats::min(SINGLE_SPACING_THRESHOLD, dist);
     let bonus = num_elementary::power(dist / SINGLE_SPACING_THRESHOLD, 3.95) * DIST_MULTIPLIER;
-    bonus * num_roots::root64(small_circle_bonus)
+    bonus * num_roots::root(small_circle_bonus)
 }
 
 // The value of a record, with the travel distance of the one before it.

@@ -61,7 +61,7 @@ pub extern "C" fn numbers_angle(dot: f64, det: f64) -> f64
 pub extern "C" fn numbers_root64(x: f64) -> f64
     ensures { result ≡ root_of binary64 x }
 {
-    num_roots::root64(x)
+    num_roots::root(x)
 }
 
 // The square root of an f32.
@@ -69,5 +69,5 @@ pub extern "C" fn numbers_root64(x: f64) -> f64
 pub extern "C" fn numbers_root32(x: f32) -> f32
     ensures { result ≡ root_of binary32 x }
 {
-    num_roots::root32(x)
+    num_roots::root(x)
 }

@@ -67,6 +67,6 @@ impl Pos {
     pub fn length(self) -> f32
         ensures { result ≡ length_of self }
     {
-        num_roots::root32(self.x * self.x + self.y * self.y)
+        num_roots::root(self.x * self.x + self.y * self.y)
     }
 }

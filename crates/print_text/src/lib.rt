@@ -8,6 +8,8 @@ ghost use Rattle.std.specs.Prelude.{◌≡◌, [], ◌∷◌, ◌<◌, ◌≤◌
 ghost use Rattle.print_text.specs.Buffer.{Puts};
 ghost use Rattle.print_text.specs.Text as Text;
 
+use num_floats::Binary;
+
 pub use input::{next_length, next_long, next_word, read_chart, read_numbers};
 
 // One byte.
@@ -81,14 +83,14 @@ pub fn put_hex32(out: &mut [u8], at: usize, v: u32) -> usize
 pub fn put_f64(out: &mut [u8], at: usize, x: f64) -> usize
     ensures { Puts (Text.f64_text x) out.old at out.new result }
 {
-    put_hex64(out, at, num_floats::bits_of_f64(x))
+    put_hex64(out, at, x.bits())
 }
 
 // The bits of an f32, NaN as 7FC00000.
 pub fn put_f32(out: &mut [u8], at: usize, x: f32) -> usize
     ensures { Puts (Text.f32_text x) out.old at out.new result }
 {
-    put_hex32(out, at, num_floats::bits_of_f32(x))
+    put_hex32(out, at, x.bits() as u32)
 }
 
 // v in decimal.

@@ -6,15 +6,16 @@ ghost use Rattle.skills_counts.specs.Chart.{object_strains};
 
 use crate::fold::{Joining, Objects, fold};
 use chart_fields::Layout;
+use num_floats::Binary;
 use skills::Skill;
 
 // A number that grows with x by f64::total_cmp.
 fn total_key(x: f64) -> u64
     ensures { result ≡ Lists.total_key x }
 {
-    let b = num_floats::bits_of_f64(x);
-    if b < num_floats::SIGN {
-        return b + num_floats::SIGN;
+    let b = x.bits();
+    if b < f64::SIGN {
+        return b + f64::SIGN;
     }
     0xFFFF_FFFF_FFFF_FFFF - b
 }

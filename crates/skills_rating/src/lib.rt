@@ -178,7 +178,7 @@ impl OsuRatingCalculator {
     pub fn calculate_difficulty_rating(difficulty_value: f64) -> f64
         ensures { result ≡ Rating.calculate_difficulty_rating difficulty_value }
     {
-        num_roots::root64(difficulty_value) * DIFFICULTY_MULTIPLIER
+        num_roots::root(difficulty_value) * DIFFICULTY_MULTIPLIER
     }
 
     // How much of hidden's bonus aim gets at this approach rate.
@@ -299,6 +299,6 @@ impl OsuRatingCalculator {
         }
         let rating = Self::calculate_difficulty_rating(flashlight_difficulty_value);
         let helped = mods.helped(mods.touched(rating));
-        mods.deflated(mods.attracted(helped)) * num_roots::root64(self.flashlight_multiplier())
+        mods.deflated(mods.attracted(helped)) * num_roots::root(self.flashlight_multiplier())
     }
 }

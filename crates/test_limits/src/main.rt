@@ -4,6 +4,7 @@
 ghost use Rattle.std.specs.Prelude.{◌≡◌, ◌≤◌, length};
 
 use chart_opening::Refusal;
+use num_floats::Binary;
 
 // The most objects of a chart.
 const MOST: usize = 16_384;
@@ -39,16 +40,16 @@ fn put_counts(s: &mut [u8], n: usize, size: usize) -> usize {
 
 // Clock rate, radius and hit window.
 fn put_play(s: &mut [u8], at: usize) -> usize {
-    let clock_rate = put(s, at, num_floats::bits_of_f64(1.0), 8);
-    let radius = put(s, clock_rate, num_floats::bits_of_f64(32.0), 8);
-    put(s, radius, num_floats::bits_of_f64(80.0), 8)
+    let clock_rate = put(s, at, 1.0f64.bits(), 8);
+    let radius = put(s, clock_rate, 32.0f64.bits(), 8);
+    put(s, radius, 80.0f64.bits(), 8)
 }
 
 // Preempt and fade-in times, scaling factor, and no flag.
 fn put_sight(s: &mut [u8], at: usize) -> usize {
-    let preempt = put(s, at, num_floats::bits_of_f64(1_200.0), 8);
-    let fade_in = put(s, preempt, num_floats::bits_of_f64(800.0), 8);
-    put(s, fade_in, num_floats::bits_of_f32(1.5625) as u64, 8)
+    let preempt = put(s, at, 1_200.0f64.bits(), 8);
+    let fade_in = put(s, preempt, 800.0f64.bits(), 8);
+    put(s, fade_in, 1.5625f32.bits(), 8)
 }
 
 // Circles, a millisecond apart.
@@ -57,8 +58,8 @@ fn put_circles(s: &mut [u8], at: usize, n: usize) {
     let mut time = 0.0;
     let mut left = n;
     while 0 < left {
-        end = put(s, end, num_floats::bits_of_f64(time), 8);
-        end = put(s, end, num_floats::bits_of_f64(time), 8);
+        end = put(s, end, time.bits(), 8);
+        end = put(s, end, time.bits(), 8);
         end = put(s, end, 0, chart_fields::OBJECT_SIZE - 16);
         time = time + 1.0;
         left -= 1;

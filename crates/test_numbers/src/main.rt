@@ -4,6 +4,8 @@
 
 ghost use Rattle.std.specs.Prelude.{◌*◌, ◌≤◌, ◌≡◌, length};
 
+use num_floats::Binary;
+
 const SIZE: usize = 25;
 
 // The f64 answers of one argument.
@@ -13,7 +15,7 @@ fn of_one(f: u8, x: f64) -> f64 {
         b'e' => num_elementary::exp(x),
         b'g' => num_elementary::log10(x),
         b'o' => num_elementary::log(x),
-        b'r' => num_roots::root64(x),
+        b'r' => num_roots::root(x),
         b't' => num_whole::trunc(x),
         b'f' => num_whole::floor(x),
         b'c' => num_whole::ceil(x),
@@ -52,7 +54,7 @@ fn of_more(f: u8, x: f64, y: f64, z: f64) -> f64 {
 
 // The answer to one vector.
 fn answer(out: &mut [u8], at: usize, f: u8, x: u64, y: u64, z: u64) -> usize {
-    let a = num_floats::f64_of_bits(x);
+    let a = f64::of_bits(x);
     match f {
         b'i' => print_text::put_f64(out, at, num_whole::to_i32(a) as f64),
         b'n' => print_text::put_f32(out, at, num_whole::f64_to_f32(a)),
@@ -60,19 +62,19 @@ fn answer(out: &mut [u8], at: usize, f: u8, x: u64, y: u64, z: u64) -> usize {
         b'N' => print_text::put(
             out,
             at,
-            told(num_util::float_ext::not_eq(a, num_floats::f64_of_bits(y))),
+            told(num_util::float_ext::not_eq(a, f64::of_bits(y))),
         ),
         _ => print_text::put_f64(
             out,
             at,
-            of_more(f, a, num_floats::f64_of_bits(y), num_floats::f64_of_bits(z)),
+            of_more(f, a, f64::of_bits(y), f64::of_bits(z)),
         ),
     }
 }
 
 // The root of the f32 with the bits of the lower half of x.
 fn root32_of(x: u64) -> f32 {
-    num_roots::root32(num_floats::f32_of_bits((x % 0x1_0000_0000) as u32))
+    num_roots::root(f32::of_bits(x % 0x1_0000_0000))
 }
 
 // 1 or 0 as a character.

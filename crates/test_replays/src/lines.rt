@@ -8,6 +8,7 @@ use eval_rhythm::Counted;
 use skills::Skills;
 use calls_readings::AimDetail;
 use osu_difficulty_object::OsuDifficultyObject;
+use num_floats::Binary;
 
 // Entries of each table.
 pub const ENTRIES: usize = 1024;
@@ -51,7 +52,7 @@ pub fn hash_table(from: u64, table: &[f64]) -> u64 {
     let mut h = from;
     let mut i = 0;
     while i < table.len() {
-        h = hashed(h, num_floats::bits_of_f64(table[i]));
+        h = hashed(h, table[i].bits());
         i += 1;
     }
     h
@@ -141,7 +142,7 @@ pub fn put_rhythm(out: &mut [u8], at: usize, place: usize, answer: Result<Counte
 pub fn holds(scratch: &[f64], x: f64) -> bool {
     let mut i = 0;
     while i < scratch.len() {
-        if num_floats::bits_of_f64(scratch[i]) != num_floats::bits_of_f64(x) {
+        if scratch[i].bits() != x.bits() {
             return false;
         }
         i += 1;
@@ -235,7 +236,7 @@ fn patterned(table: &[f64], pattern: &[f64], low: usize, high: usize) -> bool {
             return true;
         }
         let x = pattern_at(pattern, i);
-        if num_floats::bits_of_f64(table[i]) != num_floats::bits_of_f64(x) {
+        if table[i].bits() != x.bits() {
             return false;
         }
         i += 1;

@@ -4,4 +4,4 @@ use Rattle.eval_rhythm.proofs.value.Goals as goal
 
 pub returns : goal.returns
 unfolding value_of
-returns c = simp c.root64.ensures
+returns c = simp c.root.ensures

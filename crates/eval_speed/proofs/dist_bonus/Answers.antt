@@ -10,4 +10,4 @@ returns-then-autopilot c = search rules
 
 pub returns : goal.returns
 unfolding dist_bonus
-returns c = simp (c.root64.ensures, c.power-bonus.ensures, c.min-dist.ensures, c.if-autopilot.false)
+returns c = simp (c.root.ensures, c.power-bonus.ensures, c.min-dist.ensures, c.if-autopilot.false)

@@ -8,6 +8,6 @@ use Rattle.num_angle.proofs.parts_of.Goals as goal
 
 pub returns : goal.returns
 returns c =
-    let b = c.bits_of_f64-b in
+    let b = c.bits-b in
     let p = c.parts in
     (ap₂ (λ (i j : ℕ). i * 2 ^ j) p.ensures.fact_1 p.ensures.fact_2 ∙ reads_units c.args.x b.result b.ensures.fact_2 (omega arith) c.requires, search rules)

@@ -5,5 +5,5 @@ use Rattle.num_angle.proofs.sign_bit.Goals as goal
 
 pub returns : goal.returns
 returns c =
-    let b = c.bits_of_f64 in
+    let b = c.bits in
     sign_reads c.args.x b.result b.ensures.fact_1 b.ensures.fact_2 (omega arith)

@@ -10,8 +10,8 @@ pub log_scaled-requires : goal.log_scaled-requires
 log_scaled-requires c =
     let b = c.args.b in
     let p = c.requires in
-    let n = c.bits_of_f64.result in
-    let read = c.bits_of_f64.ensures.fact_2 in
+    let n = c.bits.result in
+    let read = c.bits.ensures.fact_2 in
     let wide : n < 2 ^ 64 = search rules in (
       subst (λ (x : ℕ). 0 < x) (sym c.parts-p.ensures.fact_1) (above_digits b n read wide p),
       subst (λ (x : ℕ). x < 2 ^ 53) (sym c.parts-p.ensures.fact_1) (sig_short binary64 n),
@@ -22,8 +22,8 @@ pub returns : goal.returns
 returns c =
     let b = c.args.b in
     let p = c.requires in
-    let n = c.bits_of_f64.result in
-    let read = c.bits_of_f64.ensures.fact_2 in
+    let n = c.bits.result in
+    let read = c.bits.ensures.fact_2 in
     let wide : n < 2 ^ 64 = search rules in
     let r = c.log_scaled.result in
     let back : to_z w64 (of_z w64 r) ≡ r = search rules in

@@ -12,7 +12,7 @@ returns-then-e-2 c = simp (c.if-e.false, c.if-e-2.true)
 
 pub returns-then-e-3 : goal.returns-then-e-3
 unfolding power_of
-returns-then-e-3 c = simp (c.root64.ensures, c.if-e-3.true, c.if-e-2.false, c.if-e.false)
+returns-then-e-3 c = simp (c.root.ensures, c.if-e-3.true, c.if-e-2.false, c.if-e.false)
 
 pub returns-else-e-3 : goal.returns-else-e-3
 unfolding power_of

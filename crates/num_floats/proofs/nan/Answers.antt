@@ -1,7 +1,8 @@
 -- `num_floats::nan` meets its contract. Assumes nothing.
-use lib.Ieee.{binary64}
-use Rattle.num_floats.specs.Bits.{zero_by_zero}
+use Rattle.std.proofs.Common.{refl}
+use Rattle.std.specs.Float.Ieee.{of_bits}
 use Rattle.num_floats.proofs.nan.Goals as goal
 
 pub returns : goal.returns
-returns c = zero_by_zero binary64
+unfolding of_bits
+returns c = refl

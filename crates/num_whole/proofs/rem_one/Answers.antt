@@ -3,10 +3,10 @@ use Rattle.std.proofs.Common.{arith}
 use Rattle.num_whole.proofs.Sized.{Sized}
 use Rattle.num_whole.proofs.Rest.{rem_clear, one_set, one_of}
 use Rattle.num_whole.proofs.rem_one.Goals as goal
-use Rattle.num_whole.proofs.rem_one.Goals.{After-f64_of_bits-a}
+use Rattle.num_whole.proofs.rem_one.Goals.{After-of_bits-a}
 
-sized : (c : After-f64_of_bits-a) → Sized c.args.x c.bits_of_f64-b.result c.f64_of_bits-a.result
-sized c = record { read = c.bits_of_f64-b.ensures.fact_2; width = omega arith; size_is = c.f64_of_bits-a.ensures }
+sized : (c : After-of_bits-a) → Sized c.args.x c.bits-b.result c.of_bits-a.result
+sized c = record { read = c.bits-b.ensures.fact_2; width = omega arith; size_is = c.of_bits-a.ensures }
 
 pub returns-then-b-lt-SIGN : goal.returns-then-b-lt-SIGN
 returns-then-b-lt-SIGN c =

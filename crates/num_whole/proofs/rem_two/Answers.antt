@@ -3,10 +3,10 @@ use Rattle.std.proofs.Common.{arith}
 use Rattle.num_whole.proofs.Sized.{Sized, is_clear}
 use Rattle.num_whole.proofs.Rest.{rem_clear, two_set}
 use Rattle.num_whole.proofs.rem_two.Goals as goal
-use Rattle.num_whole.proofs.rem_two.Goals.{After-f64_of_bits-a}
+use Rattle.num_whole.proofs.rem_two.Goals.{After-of_bits-a}
 
-sized : (c : After-f64_of_bits-a) → Sized c.args.x c.bits_of_f64-b.result c.f64_of_bits-a.result
-sized c = record { read = c.bits_of_f64-b.ensures.fact_2; width = omega arith; size_is = c.f64_of_bits-a.ensures }
+sized : (c : After-of_bits-a) → Sized c.args.x c.bits-b.result c.of_bits-a.result
+sized c = record { read = c.bits-b.ensures.fact_2; width = omega arith; size_is = c.of_bits-a.ensures }
 
 pub below_two-r-requires : goal.below_two-r-requires
 below_two-r-requires c = is_clear (sized c)

@@ -4,4 +4,4 @@ use Rattle.print_text.proofs.put_f32.Goals as goal
 
 pub returns : goal.returns
 unfolding f32_text
-returns c = rw (← c.bits_of_f32.ensures.fact_1) c.put_hex32.ensures
+returns c = rw (← c.bits.ensures.fact_1) c.put_hex32.ensures

@@ -4,4 +4,4 @@ use Rattle.print_text.proofs.put_f64.Goals as goal
 
 pub returns : goal.returns
 unfolding f64_text
-returns c = rw (← c.bits_of_f64.ensures.fact_1) c.put_hex64.ensures
+returns c = rw (← c.bits.ensures.fact_1) c.put_hex64.ensures

@@ -4,4 +4,4 @@ use Rattle.osu_pos.proofs.Pos.length.Goals as goal
 
 pub returns : goal.returns
 unfolding length_of
-returns c = c.root32.ensures
+returns c = c.root.ensures

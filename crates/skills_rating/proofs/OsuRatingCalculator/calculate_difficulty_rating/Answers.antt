@@ -4,4 +4,4 @@ use Rattle.skills_rating.proofs.OsuRatingCalculator.calculate_difficulty_rating.
 
 pub returns : goal.returns
 unfolding calculate_difficulty_rating
-returns c = simp c.root64.ensures
+returns c = simp c.root.ensures

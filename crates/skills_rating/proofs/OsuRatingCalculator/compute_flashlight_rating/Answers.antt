@@ -8,4 +8,4 @@ returns-then-not-mods c = simp c.if-not-mods.true
 
 pub returns : goal.returns
 unfolding compute_flashlight_rating
-returns c = simp (c.root64.ensures, c.flashlight_multiplier.ensures, c.deflated.ensures, c.attracted.ensures, c.helped-helped.ensures, c.touched.ensures, c.calculate_difficulty_rating-rating.ensures, c.if-not-mods.false)
+returns c = simp (c.root.ensures, c.flashlight_multiplier.ensures, c.deflated.ensures, c.attracted.ensures, c.helped-helped.ensures, c.touched.ensures, c.calculate_difficulty_rating-rating.ensures, c.if-not-mods.false)
