@@ -25,7 +25,6 @@ clear_positives (x ∷ xs) = go (clear_positives xs) (lt zero64 x) refl
 -- the loop's invariant: k of the first i elements are kept
 pub record Keeping (a₀ a : List Float) (k i : ℕ) : Type 0 where
   pub below : k ≤ i
-  pub within : i ≤ length a
   pub kept : length a ≡ length a₀
   pub lists : take k a ++ positives (drop i a) ≡ positives a₀
 
@@ -40,14 +39,14 @@ module _ {a₀ a : List Float} {k i : ℕ} (m : Keeping a₀ a k i) where
         let l : take (k + 1) (set a k x) ++ positives (drop (i + 1) (set a k x)) ≡ take k a ++ positives (drop i a) =
         rw (add-one k, add-one i, take-suc-set a k x q, drop-set-lt (suc i) a k x p, drop-cons a i nan h) (simp (append_assoc, t)) in
         record
-        { below = omega (arith, m.below); within = simp length-set (omega arith); kept = simp length-set m.kept; lists = l ∙ m.lists }
+        { below = omega (arith, m.below); kept = simp length-set m.kept; lists = l ∙ m.lists }
 
     pub keep_no : lt zero64 (get_or a i nan) ≡ false → Keeping a₀ a k (i + 1)
     unfolding positives
     keep_no t =
         let l : take k a ++ positives (drop (i + 1) a) ≡ take k a ++ positives (drop i a) = rw (add-one i, drop-cons a i nan h) (simp t) in
         record
-        { below = omega (arith, m.below); within = omega arith; kept = m.kept; lists = l ∙ m.lists }
+        { below = omega (arith, m.below); kept = m.kept; lists = l ∙ m.lists }
 
   pub keep_done : length a ≤ i → take k a ≡ positives a₀
   unfolding positives

@@ -1,4 +1,4 @@
--- The walks of aim, aim without sliders and flashlight side by side: each is `walk`'s, with a decay that is worked out once. Assumes nothing.
+-- A skill's walk, place by place; and the skills whose strains decay as aim's does. Assumes nothing.
 use Prim.Native.Nat.{ℕ, ◌≤◌, ◌<◌, ◌+◌, ◌-◌}
 use native.Mathlib.Omega.{arith}
 use mathlib.Core.Path.{◌≡◌, refl, sym, ap, ap₂, ◌∙◌, subst}
@@ -36,10 +36,13 @@ pub alike_light : Alike Flashlight
 unfolding elapsed base
 alike_light = record { time = λ delta. refl; rate = refl }
 
-next_by : (k : Skill) → Alike k → (c delta decay : Float) (v : List Float) → decay ≡ strain_decay delta (base Aim) → strain_by k c decay v ≡ strain_next k c delta v
+-- the decay of aim's strain is that of each such skill's
+pub alike_decay : (k : Skill) → Alike k → (delta decay : Float) → decay ≡ strain_decay (elapsed Aim delta) (base Aim) → decay ≡ strain_decay (elapsed k delta) (base k)
+alike_decay k al delta decay e = e ∙ ap₂ (λ (t b : Float). strain_decay t b) (alike_aim.time delta ∙ sym (al.time delta)) (sym al.rate)
+
+next_by : (k : Skill) → (c delta decay : Float) (v : List Float) → decay ≡ strain_decay (elapsed k delta) (base k) → strain_by k c decay v ≡ strain_next k c delta v
 unfolding strain_next
-next_by k al c delta decay v e =
-    ap (λ (x : Float). strain_by k c x v) (e ∙ ap₂ (λ (t b : Float). strain_decay t b) (sym (al.time delta)) (sym al.rate))
+next_by k c delta decay v e = ap (λ (x : Float). strain_by k c x v) e
 
 module _ (s : List ℕ) (lay : Layout) (clock : Float) (values : List Float) (k : Skill) where
   pub strand_first : (p : List Float) (n : ℕ) (raw : Float) (w : Sections) (g : Strand) → 2 ≤ n → raw ≡ (fields_of s lay 0).start → w ≡ opened ((fields_of s lay 1).start ⊘ clock)
@@ -49,12 +52,12 @@ module _ (s : List ℕ) (lay : Layout) (clock : Float) (values : List Float) (k 
 
   module _ {p₀ : List Float} {n : ℕ} {p : List Float} {g : Strand} {raw last : Float} {j : ℕ}
       (m : Walked s lay clock values k p₀ n p g.sections raw last g.current g.strain j) (r : 8192 ≤ length p₀) where
-    pub strand_next : Alike k → j < n → (raw' : Float) → raw' ≡ (fields_of s lay j).start → (decay : Float) → decay ≡ strain_decay ((raw' ⊖ raw) ⊘ clock) (base Aim)
+    pub strand_next : j < n → (raw' : Float) → raw' ≡ (fields_of s lay j).start → (decay : Float) → decay ≡ strain_decay (elapsed k ((raw' ⊖ raw) ⊘ clock)) (base k)
         → (p' : List Float) (g' : Strand) → length p' ≡ length p → Advanced k decay last (raw' ⊘ clock) (row 5 values j) p g p' g'
         → Walked s lay clock values k p₀ n p' g'.sections raw' (raw' ⊘ clock) g'.current g'.strain (j + 1)
-    strand_next al h raw' er decay ed p' g' kp ad =
+    strand_next h raw' er decay ed p' g' kp ad =
         walked_step s lay clock values k m r h raw' er p' g'.sections kp ad.within g'.current g'.strain
-        (ad.current_is ∙ next_by k al g.current ((raw' ⊖ raw) ⊘ clock) decay (row 5 values j) ed) ad.strain_is ad.shows
+        (ad.current_is ∙ next_by k g.current ((raw' ⊖ raw) ⊘ clock) decay (row 5 values j) ed) ad.strain_is ad.shows
 
     pub strand_done : n ≤ j → (x : ℕ) (p' : List Float) → x ≡ g.sections.count + 1 → p' ≡ set p g.sections.count g.sections.peak
         → PeaksIn p' x (peaks_to k (start_at s lay clock) (strain_at (delta_at s lay clock) (row 5 values) k) (n - 1))

@@ -1,10 +1,11 @@
--- The loops of `weighted_sum` and `sum` on lists. Assumes nothing.
+-- The sums of `weighted_sum` and `sum` on lists. Assumes nothing.
 use Prim.Native.Nat.{ℕ, ◌≤◌, ◌<◌, ◌+◌}
 use native.Mathlib.Numerals.{add-one}
-use mathlib.Core.Path.{◌≡◌}
-use mathlib.Core.List.{List, []}
+use mathlib.Core.Path.{◌≡◌, refl}
+use mathlib.Core.List.{List, [], ◌∷◌}
 use lib.ListN.{length, drop, get_or, drop_of_length-le}
 use lib.Seq.{drop-cons}
+use Rattle.std.specs.List.{fold}
 use lib.Ieee.{Float, nan}
 use Rattle.num_floats.specs.Numbers.{◌⊕◌, ◌⊗◌}
 use Rattle.skills.specs.Value.{decay_weight, weighted, sum_from}
@@ -19,10 +20,8 @@ module _ (a : List Float) (i : ℕ) where
   unfolding weighted
   weigh_done sum weight h = let e : drop i a ≡ [] = drop_of_length-le a h in rw e
 
-  pub sum_next : (sum : Float) → i < length a → sum_from (sum ⊕ get_or a i nan) (drop (i + 1) a) ≡ sum_from sum (drop i a)
-  unfolding sum_from
-  sum_next sum h = rw (add-one i, drop-cons a i nan h)
-
-  pub sum_done : (sum : Float) → length a ≤ i → sum_from sum (drop i a) ≡ sum
-  unfolding sum_from
-  sum_done sum h = let e : drop i a ≡ [] = drop_of_length-le a h in rw e
+-- a fold by `+` adds in list order
+pub sum_is : (sum : Float) (xs : List Float) → fold ◌⊕◌ sum xs ≡ sum_from sum xs
+unfolding sum_from
+sum_is sum [] = refl
+sum_is sum (x ∷ xs) = sum_is (sum ⊕ x) xs

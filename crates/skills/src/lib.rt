@@ -52,20 +52,12 @@ struct Strand {
     strain: f64,
 }
 
-// How many peaks there are of aim, aim without sliders and flashlight.
+// What there is of each skill whose strains decay alike.
 #[derive(Clone, Copy)]
-struct Peaks {
-    aim: usize,
-    aim_no_sliders: usize,
-    flashlight: usize,
-}
-
-// The totals of the skills whose strains decay alike.
-#[derive(Clone, Copy)]
-struct AlikeTotals {
-    aim: f64,
-    aim_no_sliders: f64,
-    flashlight: f64,
+struct Alike<T> {
+    aim: T,
+    aim_no_sliders: T,
+    flashlight: T,
 }
 
 impl Strand {
@@ -97,51 +89,60 @@ const VALUES: usize = 5;
 
 const RHYTHM: usize = 3;
 
-// The base to which a skill's strain decays in a second.
-fn strain_decay_base(skill: Skill) -> f64
-    ensures { result ≡ strains.base skill }
-{
-    match skill {
-        Skill::Aim => aim::STRAIN_DECAY_BASE,
-        Skill::AimNoSliders => aim::STRAIN_DECAY_BASE,
-        Skill::Speed => speed::STRAIN_DECAY_BASE,
-        Skill::Flashlight => flashlight::STRAIN_DECAY_BASE,
+impl Skill {
+    // The base to which the skill's strain decays in a second.
+    #[tactic(auto, unfolding(crate::specs::Strains::base))]
+    fn strain_decay_base(self) -> f64
+        ensures { result ≡ strains.base self }
+    {
+        match self {
+            Self::Aim | Self::AimNoSliders => aim::STRAIN_DECAY_BASE,
+            Self::Speed => speed::STRAIN_DECAY_BASE,
+            Self::Flashlight => flashlight::STRAIN_DECAY_BASE,
+        }
     }
-}
 
-// What a skill multiplies its value by.
-fn skill_multiplier(skill: Skill) -> f64
-    ensures { result ≡ strains.multiplier skill }
-{
-    match skill {
-        Skill::Aim => aim::SKILL_MULTIPLIER,
-        Skill::AimNoSliders => aim::SKILL_MULTIPLIER,
-        Skill::Speed => speed::SKILL_MULTIPLIER,
-        Skill::Flashlight => flashlight::SKILL_MULTIPLIER,
+    // What the skill multiplies its value by.
+    #[tactic(auto, unfolding(crate::specs::Strains::multiplier))]
+    fn multiplier(self) -> f64
+        ensures { result ≡ strains.multiplier self }
+    {
+        match self {
+            Self::Aim | Self::AimNoSliders => aim::SKILL_MULTIPLIER,
+            Self::Speed => speed::SKILL_MULTIPLIER,
+            Self::Flashlight => flashlight::SKILL_MULTIPLIER,
+        }
     }
-}
 
-// Which of a place's five values a skill adds.
-fn column(skill: Skill) -> usize
-    ensures { (result ≡ strains.column skill) × (result < 5) }
-{
-    match skill {
-        Skill::Aim => 0,
-        Skill::AimNoSliders => 1,
-        Skill::Speed => 2,
-        Skill::Flashlight => 4,
+    // Which of a place's five values the skill adds.
+    #[tactic(auto, unfolding(crate::specs::Strains::column))]
+    fn column(self) -> usize
+        ensures { (result ≡ strains.column self) × (result < 5) }
+    {
+        match self {
+            Self::Aim => 0,
+            Self::AimNoSliders => 1,
+            Self::Speed => 2,
+            Self::Flashlight => 4,
+        }
     }
-}
 
-// The time by which a strain decays: speed's is the adjusted delta time, the others' the delta time.
-fn elapsed(skill: Skill, delta: f64) -> f64
-    ensures { result ≡ strains.elapsed skill delta }
-{
-    match skill {
-        Skill::Aim => delta,
-        Skill::AimNoSliders => delta,
-        Skill::Speed => num_floats::max(delta, MIN_DELTA_TIME),
-        Skill::Flashlight => delta,
+    // The time by which the strain decays: speed's is the adjusted delta time, the others' the delta time.
+    #[tactic(auto, unfolding(crate::specs::Strains::elapsed))]
+    fn elapsed(self, delta: f64) -> f64
+        ensures { result ≡ strains.elapsed self delta }
+    {
+        match self {
+            Self::Speed => num_floats::max(delta, MIN_DELTA_TIME),
+            Self::Aim | Self::AimNoSliders | Self::Flashlight => delta,
+        }
+    }
+
+    // What is left of the strain after `delta`.
+    fn decay(self, delta: f64) -> f64
+        ensures { result ≡ strains.strain_decay (strains.elapsed self delta) (strains.base self) }
+    {
+        strain_decay(self.elapsed(delta), self.strain_decay_base())
     }
 }
 
@@ -157,8 +158,8 @@ fn decayed_strain(values: &[f64], j: usize, skill: Skill, current: f64, decay: f
     requires { 5 * j + 5 ≤ length values.now }
     ensures { result ≡ strain_by skill current decay (row 5 values.now j) }
 {
-    let at = VALUES * j + column(skill);
-    current * decay + values[at] * skill_multiplier(skill)
+    let at = VALUES * j + skill.column();
+    current * decay + values[at] * skill.multiplier()
 }
 
 // The same with the time since the place before.
@@ -166,20 +167,18 @@ pub fn current_strain(values: &[f64], j: usize, skill: Skill, current: f64, delt
     requires { 5 * j + 5 ≤ length values.now }
     ensures { result ≡ strains.strain_next skill current delta (row 5 values.now j) }
 {
-    let decay = strain_decay(elapsed(skill, delta), strain_decay_base(skill));
-    decayed_strain(values, j, skill, current, decay)
+    decayed_strain(values, j, skill, current, skill.decay(delta))
 }
 
 // The strain at place j, of its decaying strain: speed's times the rhythm, the others' alone.
+#[tactic(auto, unfolding(crate::specs::Strains::joined))]
 pub fn strain_value_at(values: &[f64], j: usize, skill: Skill, current: f64) -> f64
     requires { 5 * j + 5 ≤ length values.now }
     ensures { result ≡ strains.joined skill current (row 5 values.now j) }
 {
     match skill {
-        Skill::Aim => current,
-        Skill::AimNoSliders => current,
         Skill::Speed => current * values[VALUES * j + RHYTHM],
-        Skill::Flashlight => current,
+        Skill::Aim | Skill::AimNoSliders | Skill::Flashlight => current,
     }
 }
 
@@ -187,7 +186,7 @@ pub fn strain_value_at(values: &[f64], j: usize, skill: Skill, current: f64) -> 
 pub fn calculate_initial_strain(skill: Skill, strain: f64, start: f64, time: f64) -> f64
     ensures { result ≡ strains.initial_strain skill strain start time }
 {
-    strain * strain_decay(time - start, strain_decay_base(skill))
+    strain * strain_decay(time - start, skill.strain_decay_base())
 }
 
 // Closes sections while `start` is after the open one's end. `strain` and `last` are the strain and the start of the place before.
@@ -202,20 +201,16 @@ fn close_sections(
     requires { (from.count ≤ strains.room) × (Roomy peaks.old) }
     ensures { (result.count ≤ strains.room) × (shown peaks.new result ≡ closed peaks.old from skill strain last start) }
 {
-    let mut count = from.count;
-    let mut peak = from.peak;
-    let mut end = from.end;
-    while count < ROOM {
-        if end < start {
-            peaks[count] = peak;
-            peak = calculate_initial_strain(skill, strain, last, end);
-            end = end + SECTION_LENGTH;
-            count += 1;
-        } else {
-            return Sections { count, peak, end };
-        }
+    let mut s = from;
+    while s.count < ROOM && s.end < start {
+        peaks[s.count] = s.peak;
+        s = Sections {
+            count: s.count + 1,
+            peak: calculate_initial_strain(skill, strain, last, s.end),
+            end: s.end + SECTION_LENGTH,
+        };
     }
-    Sections { count, peak, end }
+    s
 }
 
 // The sections before place 1, which starts at `start`: the first is open, and its peak starts at 0.
@@ -245,43 +240,7 @@ pub fn raw_start(chart: &[u8], lay: Layout, j: usize) -> f64
     requires { Holds chart.now lay × (j < lay.n) }
     ensures { result ≡ (fields_of chart.now lay j).start }
 {
-    let f = chart_fields::fields_of(chart, lay, j);
-    f.start
-}
-
-// The section walk over a chart of two objects or more: writes the peaks of all sections, the last closed too, and returns how many they are.
-fn walk(
-    chart: &[u8],
-    lay: Layout,
-    clock: f64,
-    values: &[f64],
-    skill: Skill,
-    peaks: &mut [f64],
-) -> usize
-    requires { (Readable chart.now lay values.now) × (2 ≤ lay.n) × (Roomy peaks.old) }
-    ensures { (result ≤ strains.room + 1) × (take result peaks.new ≡ peaks_of chart.now lay clock values.now skill) }
-{
-    let n = lay.n;
-    let mut sections = open_first(raw_start(chart, lay, 1) / clock);
-    let mut raw_last = raw_start(chart, lay, 0);
-    let mut last = 0.0;
-    let mut current = 0.0;
-    let mut joined = 0.0;
-    let mut j = 1;
-    while j < n {
-        let raw = raw_start(chart, lay, j);
-        let start = raw / clock;
-        let closed = close_sections(peaks, sections, skill, joined, last, start);
-        current = current_strain(values, j, skill, current, (raw - raw_last) / clock);
-        joined = strain_value_at(values, j, skill, current);
-        sections = join(closed, joined);
-        raw_last = raw;
-        last = start;
-        j += 1;
-    }
-    let count = sections.count;
-    peaks[count] = sections.peak;
-    count + 1
+    chart_fields::fields_of(chart, lay, j).start
 }
 
 // One place more of a skill's walk: sections that end before `start` are closed, and the strain, of which `decay` is left, joins.
@@ -320,6 +279,33 @@ fn close_last(peaks: &mut [f64], s: Sections) -> usize
     count + 1
 }
 
+// The section walk over a chart of two objects or more: writes the peaks of all sections, the last closed too, and returns how many they are.
+fn walk(
+    chart: &[u8],
+    lay: Layout,
+    clock: f64,
+    values: &[f64],
+    skill: Skill,
+    peaks: &mut [f64],
+) -> usize
+    requires { (Readable chart.now lay values.now) × (2 ≤ lay.n) × (Roomy peaks.old) }
+    ensures { (result ≤ strains.room + 1) × (take result peaks.new ≡ peaks_of chart.now lay clock values.now skill) }
+{
+    let first = open_first(raw_start(chart, lay, 1) / clock);
+    let mut raw_last = raw_start(chart, lay, 0);
+    let mut last = 0.0;
+    let mut s = Strand::new(first);
+    for j in 1..lay.n {
+        let raw = raw_start(chart, lay, j);
+        let start = raw / clock;
+        let decay = skill.decay((raw - raw_last) / clock);
+        s = advance(peaks, s, values, j, skill, decay, last, start);
+        raw_last = raw;
+        last = start;
+    }
+    close_last(peaks, s.sections)
+}
+
 // The section walks of aim, aim without sliders and flashlight over a chart of two objects or more. Their strains decay alike, so that the power is taken once
 // for all three. Writes the peaks of all sections, the last closed too, and returns how many they are.
 fn walk_three(
@@ -330,7 +316,7 @@ fn walk_three(
     aim: &mut [f64],
     aim_no_sliders: &mut [f64],
     flashlight: &mut [f64],
-) -> Peaks
+) -> Alike<usize>
     requires { (Readable chart.now lay values.now) × (2 ≤ lay.n)
         × (Roomy aim.old) × (Roomy aim_no_sliders.old) × (Roomy flashlight.old) }
     ensures aim { PeaksIn aim.new result.aim (peaks_of chart.now lay clock values.now Skill.Aim) }
@@ -339,18 +325,16 @@ fn walk_three(
     ensures light { PeaksIn flashlight.new result.flashlight
         (peaks_of chart.now lay clock values.now Skill.Flashlight) }
 {
-    let n = lay.n;
-    let sections = open_first(raw_start(chart, lay, 1) / clock);
+    let first = open_first(raw_start(chart, lay, 1) / clock);
     let mut raw_last = raw_start(chart, lay, 0);
     let mut last = 0.0;
-    let mut a = Strand::new(sections);
-    let mut b = Strand::new(sections);
-    let mut c = Strand::new(sections);
-    let mut j = 1;
-    while j < n {
+    let mut a = Strand::new(first);
+    let mut b = Strand::new(first);
+    let mut c = Strand::new(first);
+    for j in 1..lay.n {
         let raw = raw_start(chart, lay, j);
         let at = raw / clock;
-        let decay = strain_decay((raw - raw_last) / clock, strain_decay_base(Skill::Aim));
+        let decay = Skill::Aim.decay((raw - raw_last) / clock);
         a = advance(aim, a, values, j, Skill::Aim, decay, last, at);
         b = advance(
             aim_no_sliders,
@@ -365,9 +349,8 @@ fn walk_three(
         c = advance(flashlight, c, values, j, Skill::Flashlight, decay, last, at);
         raw_last = raw;
         last = at;
-        j += 1;
     }
-    Peaks {
+    Alike {
         aim: close_last(aim, a.sections),
         aim_no_sliders: close_last(aim_no_sliders, b.sections),
         flashlight: close_last(flashlight, c.sections),
@@ -393,13 +376,11 @@ pub fn strains_into(
     }
     let mut raw_last = raw_start(chart, lay, 0);
     let mut current = 0.0;
-    let mut j = 1;
-    while j < n {
+    for j in 1..n {
         let raw = raw_start(chart, lay, j);
         current = current_strain(values, j, skill, current, (raw - raw_last) / clock);
         out[j] = strain_value_at(values, j, skill, current);
         raw_last = raw;
-        j += 1;
     }
 }
 
@@ -420,7 +401,7 @@ fn skill_total(
         return 0.0;
     }
     let count = walk(chart, lay, clock, values, skill, peaks);
-    strain::difficulty_of(skill, &mut peaks[0..count], tmp)
+    strain::difficulty_of(skill, &mut peaks[..count], tmp)
 }
 
 // The totals of aim, aim without sliders and flashlight. What the scratch holds afterwards is not said.
@@ -433,7 +414,7 @@ fn alike_totals(
     aim_no_sliders: &mut [f64],
     flashlight: &mut [f64],
     tmp: &mut [f64],
-) -> AlikeTotals
+) -> Alike<f64>
     requires { (Readable chart.now lay values.now)
         × (Roomy aim.old) × (Roomy aim_no_sliders.old) × (Roomy flashlight.old) × (Roomy tmp.old) }
     ensures { (result.aim ≡ total_of chart.now lay clock values.now Skill.Aim)
@@ -441,20 +422,25 @@ fn alike_totals(
         × (result.flashlight ≡ total_of chart.now lay clock values.now Skill.Flashlight) }
 {
     if lay.n < 2 {
-        return AlikeTotals {
+        return Alike {
             aim: 0.0,
             aim_no_sliders: 0.0,
             flashlight: 0.0,
         };
     }
     let peaks = walk_three(chart, lay, clock, values, aim, aim_no_sliders, flashlight);
-    let a = peaks.aim;
-    let b = peaks.aim_no_sliders;
-    let c = peaks.flashlight;
-    AlikeTotals {
-        aim: strain::difficulty_of(Skill::Aim, &mut aim[0..a], tmp),
-        aim_no_sliders: strain::difficulty_of(Skill::AimNoSliders, &mut aim_no_sliders[0..b], tmp),
-        flashlight: strain::difficulty_of(Skill::Flashlight, &mut flashlight[0..c], tmp),
+    Alike {
+        aim: strain::difficulty_of(Skill::Aim, &mut aim[..peaks.aim], tmp),
+        aim_no_sliders: strain::difficulty_of(
+            Skill::AimNoSliders,
+            &mut aim_no_sliders[..peaks.aim_no_sliders],
+            tmp,
+        ),
+        flashlight: strain::difficulty_of(
+            Skill::Flashlight,
+            &mut flashlight[..peaks.flashlight],
+            tmp,
+        ),
     }
 }
 
@@ -462,11 +448,7 @@ fn alike_totals(
 pub fn clear(a: &mut [f64])
     ensures { a.new ≡ replicate (length a.old) zero64 }
 {
-    let mut i = 0;
-    while i < a.len() {
-        a[i] = 0.0;
-        i += 1;
-    }
+    a.fill(0.0);
 }
 
 // The four totals. All scratch is 0 afterwards, for charts of 0 and 1 objects too.

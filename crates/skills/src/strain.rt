@@ -44,15 +44,11 @@ fn keep_positive(a: &mut [f64]) -> usize
     ensures { (result ≤ length a.old) × (take result a.new ≡ value.positives a.old) }
 {
     let mut k = 0;
-    let mut i = 0;
-    while i < a.len() {
+    for i in 0..a.len() {
         let x = a[i];
         if 0.0 < x {
             a[k] = x;
             k += 1;
-            i += 1;
-        } else {
-            i += 1;
         }
     }
     k
@@ -63,13 +59,8 @@ fn reduce(a: &mut [f64], count: usize)
     requires { count < 65536 }
     ensures { a.new ≡ value.reduced count 0 a.old }
 {
-    let mut i = 0;
-    while i < a.len() {
-        if count <= i {
-            return;
-        }
-        a[i] = a[i] * reduction(i, count);
-        i += 1;
+    for i in 0..count.min(a.len()) {
+        a[i] *= reduction(i, count);
     }
 }
 
@@ -79,11 +70,9 @@ fn weighted_sum(a: &[f64]) -> f64
 {
     let mut difficulty = 0.0;
     let mut weight = 1.0;
-    let mut i = 0;
-    while i < a.len() {
-        difficulty = difficulty + a[i] * weight;
-        weight = weight * DECAY_WEIGHT;
-        i += 1;
+    for x in a {
+        difficulty += x * weight;
+        weight *= DECAY_WEIGHT;
     }
     difficulty
 }
@@ -92,13 +81,7 @@ fn weighted_sum(a: &[f64]) -> f64
 fn sum(a: &[f64]) -> f64
     ensures { result ≡ value.sum_from zero64 a.now }
 {
-    let mut total = 0.0;
-    let mut i = 0;
-    while i < a.len() {
-        total = total + a[i];
-        i += 1;
-    }
-    total
+    a.iter().fold(0.0, |total, x| total + x)
 }
 
 // The value of peaks above zero. Reducing disturbs only the first few, so the second sort goes by insertion.
@@ -118,17 +101,17 @@ fn difficulty_value(peaks: &mut [f64], tmp: &mut [f64], count: usize) -> f64
     ensures { result ≡ value.difficulty_value count peaks.old }
 {
     let kept = keep_positive(peaks);
-    value_of_positive(&mut peaks[0..kept], tmp, count)
+    value_of_positive(&mut peaks[..kept], tmp, count)
 }
 
 // A skill's value of its peaks. What the slices hold afterwards is not said.
+#[tactic(auto, unfolding(crate::specs::Value::difficulty_of))]
 pub fn difficulty_of(skill: Skill, peaks: &mut [f64], tmp: &mut [f64]) -> f64
     requires { length peaks.old ≤ length tmp.old }
     ensures { result ≡ value.difficulty_of skill peaks.old }
 {
     match skill {
-        Skill::Aim => difficulty_value(peaks, tmp, REDUCED_SECTION_COUNT),
-        Skill::AimNoSliders => difficulty_value(peaks, tmp, REDUCED_SECTION_COUNT),
+        Skill::Aim | Skill::AimNoSliders => difficulty_value(peaks, tmp, REDUCED_SECTION_COUNT),
         Skill::Speed => difficulty_value(peaks, tmp, crate::speed::REDUCED_SECTION_COUNT),
         Skill::Flashlight => sum(peaks),
     }

@@ -1,6 +1,5 @@
 -- `skills::alike_totals` meets its contract. Assumes nothing.
 use native.Mathlib.Omega.{arith}
-use native.Mathlib.Nat.{sub-zero}
 use Prim.Native.Nat.{◌-◌}
 use mathlib.Core.Path.{◌≡◌, sym, ap, ◌∙◌}
 use lib.ListN.{take}
@@ -32,7 +31,7 @@ difficulty_of-requires-3 c =
     let w = c.walk_three-peaks in
     let few = w.ensures.light.0 in
     let long = w.auto.flashlight in
-    omega (arith, length-take-le (w.result.flashlight - 0) w.new.flashlight (omega (arith, few, long, c.requires.3)), few, c.difficulty_of-2.auto.tmp, c.difficulty_of.auto.tmp, c.requires.4)
+    omega (arith, length-take-le w.result.flashlight w.new.flashlight (omega (arith, few, long, c.requires.3)), few, c.difficulty_of-2.auto.tmp, c.difficulty_of.auto.tmp, c.requires.4)
 
 pub returns : goal.returns
 returns c =
@@ -41,9 +40,9 @@ returns c =
     let starts = start_at a.chart.now a.lay a.clock in
     let deltas = delta_at a.chart.now a.lay a.clock in
     let vs = row 5 a.values.now in
-    let e : take (w.result.aim - 0) w.new.aim ≡ peaks_to Aim starts (strain_at deltas vs Aim) (a.lay.n - 1) = rw sub-zero w.ensures.aim.1 in
-    let f : take (w.result.aim_no_sliders - 0) w.new.aim_no_sliders ≡ peaks_to AimNoSliders starts (strain_at deltas vs AimNoSliders) (a.lay.n - 1) = rw sub-zero w.ensures.plain.1 in
-    let g : take (w.result.flashlight - 0) w.new.flashlight ≡ peaks_to Flashlight starts (strain_at deltas vs Flashlight) (a.lay.n - 1) = rw sub-zero w.ensures.light.1 in
+    let e : take w.result.aim w.new.aim ≡ peaks_to Aim starts (strain_at deltas vs Aim) (a.lay.n - 1) = w.ensures.aim.1 in
+    let f : take w.result.aim_no_sliders w.new.aim_no_sliders ≡ peaks_to AimNoSliders starts (strain_at deltas vs AimNoSliders) (a.lay.n - 1) = w.ensures.plain.1 in
+    let g : take w.result.flashlight w.new.flashlight ≡ peaks_to Flashlight starts (strain_at deltas vs Flashlight) (a.lay.n - 1) = w.ensures.light.1 in
     let many = c.if-lay-lt2.false in (
       c.difficulty_of.ensures ∙ (ap (difficulty_of Aim) e ∙ sym (total_by_strains starts deltas vs Aim a.lay.n many)),
       c.difficulty_of-2.ensures ∙ (ap (difficulty_of AimNoSliders) f ∙ sym (total_by_strains starts deltas vs AimNoSliders a.lay.n many)),

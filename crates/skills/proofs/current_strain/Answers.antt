@@ -4,4 +4,4 @@ use Rattle.skills.proofs.current_strain.Goals as goal
 
 pub returns : goal.returns
 unfolding strain_next
-returns c = simp (c.decayed_strain.ensures, c.strain_decay-decay.ensures, c.strain_decay_base.ensures, c.elapsed.ensures)
+returns c = simp (c.decayed_strain.ensures, c.decay.ensures)

@@ -9,4 +9,4 @@ returns c =
     let a = c.args in
     let k = c.column.ensures in
     let e = row_at 5 a.j (column a.skill) a.values.now nan (rw k.0 at k.1) in
-    simp (e, c.skill_multiplier.ensures, k.0)
+    simp (e, c.multiplier.ensures, k.0)

@@ -5,7 +5,6 @@ use Rattle.skills.specs.Value.{difficulty_of}
 use Rattle.num_tables.specs.Parts.{row}
 use lib.ListN.{take}
 use mathlib.Core.Path.{◌≡◌, sym, ap, ◌∙◌}
-use native.Mathlib.Nat.{sub-zero}
 use Prim.Native.Nat.{◌-◌}
 use Rattle.skills.proofs.Local.{one_total_few, total_by_strains}
 use Rattle.skills.proofs.skill_total.Goals as goal
@@ -22,5 +21,5 @@ returns c =
     let starts = start_at a.chart.now a.lay a.clock in
     let deltas = delta_at a.chart.now a.lay a.clock in
     let vs = row 5 a.values.now in
-    let e : take (w.result - 0) w.new.peaks ≡ peaks_to a.skill starts (strain_at deltas vs a.skill) (a.lay.n - 1) = rw sub-zero w.ensures.1 in
+    let e : take w.result w.new.peaks ≡ peaks_to a.skill starts (strain_at deltas vs a.skill) (a.lay.n - 1) = w.ensures.1 in
     c.difficulty_of.ensures ∙ ap (difficulty_of a.skill) e ∙ sym (total_by_strains starts deltas vs a.skill a.lay.n c.if-lay-lt2.false)

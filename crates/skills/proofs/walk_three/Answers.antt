@@ -4,19 +4,19 @@ use mathlib.Core.Path.{ap, ◌∙◌}
 use lib.Ieee.{Float}
 use Rattle.num_floats.specs.Numbers.{◌⊘◌}
 use Rattle.skills.specs.declared.Skill.TheVariants.{Aim, AimNoSliders, Flashlight}
-use Rattle.skills.specs.Strains.{strain_decay}
+use Rattle.skills.specs.declared.Skill.{Skill}
 use Rattle.skills.specs.Shown.{opened}
-use Rattle.skills.proofs.Strands.{alike_aim, alike_plain, alike_light, strand_first, strand_next, strand_done}
+use Rattle.skills.proofs.Strands.{Alike, alike_decay, alike_aim, alike_plain, alike_light, strand_first, strand_next, strand_done}
 use Rattle.skills.proofs.walk_three.Goals as goal
 
 pub loop-j-init : goal.loop-j-init
 loop-j-init c =
     let a = c.args in
     let er = c.raw_start-raw_last.ensures in
-    let ew = c.open_first-sections.ensures ∙ ap (λ (x : Float). opened (x ⊘ a.clock)) c.raw_start.ensures in (
-      strand_first a.chart.now a.lay a.clock a.values.now Aim a.aim.now a.lay.n c.raw_start-raw_last.result c.open_first-sections.result c.new-a.result c.requires.1 er ew c.new-a.ensures,
-      strand_first a.chart.now a.lay a.clock a.values.now AimNoSliders a.aim_no_sliders.now a.lay.n c.raw_start-raw_last.result c.open_first-sections.result c.new-b.result c.requires.1 er ew c.new-b.ensures,
-      strand_first a.chart.now a.lay a.clock a.values.now Flashlight a.flashlight.now a.lay.n c.raw_start-raw_last.result c.open_first-sections.result c.new-c.result c.requires.1 er ew c.new-c.ensures,
+    let ew = c.open_first-first.ensures ∙ ap (λ (x : Float). opened (x ⊘ a.clock)) c.raw_start.ensures in (
+      strand_first a.chart.now a.lay a.clock a.values.now Aim a.aim.now a.lay.n c.raw_start-raw_last.result c.open_first-first.result c.new-a.result c.requires.1 er ew c.new-a.ensures,
+      strand_first a.chart.now a.lay a.clock a.values.now AimNoSliders a.aim_no_sliders.now a.lay.n c.raw_start-raw_last.result c.open_first-first.result c.new-b.result c.requires.1 er ew c.new-b.ensures,
+      strand_first a.chart.now a.lay a.clock a.values.now Flashlight a.flashlight.now a.lay.n c.raw_start-raw_last.result c.open_first-first.result c.new-c.result c.requires.1 er ew c.new-c.ensures,
     )
 
 pub raw_start-raw-requires : goal.raw_start-raw-requires
@@ -31,22 +31,17 @@ advance-b-requires c = let l = c.loop-j in (l.invariant.1.within, omega (arith, 
 pub advance-c-requires : goal.advance-c-requires
 advance-c-requires c = let l = c.loop-j in (l.invariant.2.within, omega (arith, l.invariant.2.kept, c.requires.4), omega (arith, c.requires.0.rows, c.loop-j-test.true))
 
-pub overflow_add-j : goal.overflow_add-j
-overflow_add-j c = omega (arith, c.loop-j-test.true, c.requires.0.holds.few)
-
-pub loop-j-smaller : goal.loop-j-smaller
-loop-j-smaller c = omega (arith, c.loop-j-test.true)
-
 pub loop-j-preserved : goal.loop-j-preserved
 loop-j-preserved c =
     let l = c.loop-j in
     let h = c.loop-j-test.true in
     let er = c.raw_start-raw.ensures in
     let p = c.requires in
-    let ed = c.strain_decay-decay.ensures ∙ ap (strain_decay _) c.strain_decay_base.ensures in (
-      strand_next _ _ _ _ Aim l.invariant.0 p.2 alike_aim h c.raw_start-raw.result er c.strain_decay-decay.result ed c.advance-a.new.peaks c.advance-a.result c.advance-a.auto.peaks c.advance-a.ensures,
-      strand_next _ _ _ _ AimNoSliders l.invariant.1 p.3 alike_plain h c.raw_start-raw.result er c.strain_decay-decay.result ed c.advance-b.new.peaks c.advance-b.result c.advance-b.auto.peaks c.advance-b.ensures,
-      strand_next _ _ _ _ Flashlight l.invariant.2 p.4 alike_light h c.raw_start-raw.result er c.strain_decay-decay.result ed c.advance-c.new.peaks c.advance-c.result c.advance-c.auto.peaks c.advance-c.ensures,
+    let d = c.decay-decay in
+    let ed = λ (k : Skill). λ (al : Alike k). alike_decay k al _ d.result d.ensures in (
+      strand_next _ _ _ _ Aim l.invariant.0 p.2 h c.raw_start-raw.result er d.result (ed Aim alike_aim) c.advance-a.new.peaks c.advance-a.result c.advance-a.auto.peaks c.advance-a.ensures,
+      strand_next _ _ _ _ AimNoSliders l.invariant.1 p.3 h c.raw_start-raw.result er d.result (ed AimNoSliders alike_plain) c.advance-b.new.peaks c.advance-b.result c.advance-b.auto.peaks c.advance-b.ensures,
+      strand_next _ _ _ _ Flashlight l.invariant.2 p.4 h c.raw_start-raw.result er d.result (ed Flashlight alike_light) c.advance-c.new.peaks c.advance-c.result c.advance-c.auto.peaks c.advance-c.ensures,
     )
 
 pub close_last-requires : goal.close_last-requires

@@ -1,11 +1,6 @@
 -- `skills::strain::keep_positive` meets its contract: k of the first i elements are kept. Assumes nothing.
-use Prim.Native.Nat.{◌-◌}
-use lib.ListN.{length}
 use Rattle.skills.proofs.Keeping.{Keeping}
 use Rattle.skills.proofs.strain.keep_positive.Given as goal
 
 abbrev pub invariant-loop-i : goal.invariant-loop-i
 invariant-loop-i l = Keeping l.initial.a l.a l.k l.i
-
-abbrev pub decreases-loop-i : goal.decreases-loop-i
-decreases-loop-i l = length l.initial.a - l.i

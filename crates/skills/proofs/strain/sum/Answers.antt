@@ -1,15 +1,12 @@
--- `skills::strain::sum` meets its contract: the rest is still to be added. Assumes nothing.
-use borrow.Author.Rules.{rules}
-use mathlib.Core.Path.{sym, ◌∙◌}
-use Rattle.skills.proofs.Sums.{sum_next, sum_done}
+-- `skills::strain::sum` meets its contract. Assumes nothing.
+use Rattle.std.proofs.Common.{rules, ◌∙◌}
+use Rattle.std.proofs.lemmas.Iterator.{YieldsList-from_slice}
+use Rattle.std.proofs.lemmas.Iterator.Consumers.{fold_from_yields_List}
+use Rattle.num_floats.specs.Numbers.{◌⊕◌, zero64}
+use Rattle.skills.proofs.Sums.{sum_is}
 use Rattle.skills.proofs.strain.sum.Goals as goal
-
-pub loop-i-preserved : goal.loop-i-preserved
-loop-i-preserved c =
-    let l = c.loop-i in
-    (search rules, sum_next c.args.a.now l.i l.total (search rules) ∙ l.invariant.1)
 
 pub returns : goal.returns
 returns c =
-    let l = c.loop-i in
-    sym (sum_done c.args.a.now l.i l.total c.loop-i-test.false) ∙ l.invariant.1
+    fold_from_yields_List _ ◌⊕◌ zero64 c.fold.result c.fold.ensures.ran (YieldsList-from_slice c.args.a.now (search rules)) (λ a x b q k. search rules)
+    ∙ sum_is zero64 c.args.a.now
