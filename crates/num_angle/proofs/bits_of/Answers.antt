@@ -21,7 +21,7 @@ overflow_add-bits c =
 pub loop-n-preserved : goal.loop-n-preserved
 loop-n-preserved c =
     let t = c.next_bit-t in
-    turn_next c.loop-n.invariant c.loop-n-test.true t.result t.ensures.0 t.ensures.1 t.ensures.2
+    turn_next c.loop-n.invariant (omega arith) t.result t.ensures.0 t.ensures.1 t.ensures.2
 
 pub returns : goal.returns
-returns c = (turn_done c.loop-n.invariant c.loop-n-test.false, turn_room c.loop-n.invariant)
+returns c = (turn_done c.loop-n.invariant (omega arith), turn_room c.loop-n.invariant)

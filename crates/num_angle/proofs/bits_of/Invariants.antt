@@ -4,6 +4,3 @@ use Rattle.num_angle.proofs.bits_of.Given as goal
 
 abbrev pub invariant-loop-n : goal.invariant-loop-n
 invariant-loop-n l = Turning l.initial.d l.d l.bits l.n
-
-abbrev pub decreases-loop-n : goal.decreases-loop-n
-decreases-loop-n l = l.n

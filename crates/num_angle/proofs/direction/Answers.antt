@@ -9,14 +9,14 @@ use Rattle.num_angle.proofs.Whole.{back, under_63, signed, abs_signed}
 use Rattle.num_angle.proofs.Sizes.{size_max, first_under, second_under}
 use Rattle.num_angle.proofs.Scaling.{directed}
 use Rattle.num_angle.proofs.direction.Goals as goal
-use Rattle.num_angle.proofs.direction.Goals.{After-larger-n}
+use Rattle.num_angle.proofs.direction.Goals.{After-max-n}
 
 -- the digits of the larger size
-count : (c : After-larger-n) → c.larger-n.result ≡ size (max (units_of c.args.dot) (units_of c.args.det))
+count : (c : After-max-n) → c.max-n.result ≡ size (max (units_of c.args.dot) (units_of c.args.det))
 count c =
     let u = units_of c.args.dot in
     let v = units_of c.args.det in
-    c.larger-n.ensures ∙ ap₂ max (c.width.ensures.0 ∙ ap size c.parts_of-p.ensures.0) (c.width-2.ensures.0 ∙ ap size c.parts_of-q.ensures.0) ∙ size_max u v
+    c.max-n.ensures ∙ ap₂ max (c.width.ensures.0 ∙ ap size c.parts_of-p.ensures.0) (c.width-2.ensures.0 ∙ ap size c.parts_of-q.ensures.0) ∙ size_max u v
 
 pub parts_of-p-requires : goal.parts_of-p-requires
 parts_of-p-requires c = c.requires.0
@@ -38,4 +38,4 @@ returns c =
     let t = c.parts_to_31-2 in
     let e : c.with_sign.result ≡ signed neg s.result = rw c.sign_bit.ensures at c.with_sign.ensures in
     rw (e, back (signed neg s.result) (rw (abs_signed neg s.result) (under_63 s.ensures.1)), to_z_pos w64 (under_63 t.ensures.1))
-    (directed neg _ _ c.larger-n.result s.result t.result (count c.before.before.before.before) (rw c.parts_of-p.ensures.0 at s.ensures) (rw c.parts_of-q.ensures.0 at t.ensures))
+    (directed neg _ _ c.max-n.result s.result t.result (count c.before.before.before.before) (rw c.parts_of-p.ensures.0 at s.ensures) (rw c.parts_of-q.ensures.0 at t.ensures))

@@ -9,8 +9,8 @@ use Rattle.num_angle.proofs.Whole.{back, under_63}
 use Rattle.num_angle.proofs.Doubling.{level_up, next_left, next_right}
 use Rattle.num_angle.proofs.next_level.Goals as goal
 
-pub rescale-e-requires : goal.rescale-e-requires
-rescale-e-requires c =
+pub rescale-requires : goal.rescale-requires
+rescale-requires c =
     let e = c.double.ensures in
     record { sized = e.1; up = rw e.0 (level_up c.args.d c.requires.1) }
 
@@ -26,5 +26,5 @@ returns-else-d-lt0 c =
     let d = c.args.d in
     let h = c.requires in
     let t : lt_z d.x (pos 0) ≡ false = rw (back d.x (under_63 h.0.sized.x)) at c.if-d-lt0.false in
-    let e = c.rescale-e.ensures.0 ∙ ap scaled c.double.ensures.0 in
-    ((λ i. record { bit = 0; dir = e i }) ∙ sym (next_right d h.1 t), c.rescale-e.ensures.1, search rules)
+    let e = c.rescale.ensures.0 ∙ ap scaled c.double.ensures.0 in
+    ((λ i. record { bit = 0; dir = e i }) ∙ sym (next_right d h.1 t), c.rescale.ensures.1, search rules)

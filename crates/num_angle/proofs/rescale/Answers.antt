@@ -18,22 +18,22 @@ count x y a b m n en em ea eb = en ∙ ap size (em ∙ ap₂ max ea eb)
 pub size_to_31-requires : goal.size_to_31-requires
 size_to_31-requires c =
     let d = c.args.d in
-    let a-is : c.size_of-a.result ≡ nat_abs d.x = rw (back d.x c.requires.sized.x) at c.size_of-a.ensures in
-    let n-is : c.digits-n.result ≡ size (max (nat_abs d.x) (nat_abs d.y)) = count _ _ _ _ _ _ c.digits-n.ensures.0 c.larger.ensures a-is (ap nat_abs (back d.y c.requires.sized.y)) in
+    let a-is : c.unsigned_abs-a.result ≡ nat_abs d.x = rw (back d.x c.requires.sized.x) at c.unsigned_abs-a.ensures.value in
+    let n-is : c.digits-n.result ≡ size (max (nat_abs d.x) (nat_abs d.y)) = count _ _ _ _ _ _ c.digits-n.ensures.0 c.max.ensures a-is (ap nat_abs (back d.y c.requires.sized.y)) in
     rw a-is (first_under _ _ _ n-is)
 
 pub size_to_31-requires-2 : goal.size_to_31-requires-2
 size_to_31-requires-2 c =
     let d = c.args.d in
-    let a-is : c.size_of-a.result ≡ nat_abs d.x = rw (back d.x c.requires.sized.x) at c.size_of-a.ensures in
-    let n-is : c.digits-n.result ≡ size (max (nat_abs d.x) (nat_abs d.y)) = count _ _ _ _ _ _ c.digits-n.ensures.0 c.larger.ensures a-is (ap nat_abs (back d.y c.requires.sized.y)) in
+    let a-is : c.unsigned_abs-a.result ≡ nat_abs d.x = rw (back d.x c.requires.sized.x) at c.unsigned_abs-a.ensures.value in
+    let n-is : c.digits-n.result ≡ size (max (nat_abs d.x) (nat_abs d.y)) = count _ _ _ _ _ _ c.digits-n.ensures.0 c.max.ensures a-is (ap nat_abs (back d.y c.requires.sized.y)) in
     rw (back d.y c.requires.sized.y) (second_under _ _ _ n-is)
 
 pub returns : goal.returns
 returns c =
     let d = c.args.d in
-    let a-is : c.size_of-a.result ≡ nat_abs d.x = rw (back d.x c.requires.sized.x) at c.size_of-a.ensures in
-    let n-is : c.digits-n.result ≡ size (max (nat_abs d.x) (nat_abs d.y)) = count _ _ _ _ _ _ c.digits-n.ensures.0 c.larger.ensures a-is (ap nat_abs (back d.y c.requires.sized.y)) in
+    let a-is : c.unsigned_abs-a.result ≡ nat_abs d.x = rw (back d.x c.requires.sized.x) at c.unsigned_abs-a.ensures.value in
+    let n-is : c.digits-n.result ≡ size (max (nat_abs d.x) (nat_abs d.y)) = count _ _ _ _ _ _ c.digits-n.ensures.0 c.max.ensures a-is (ap nat_abs (back d.y c.requires.sized.y)) in
     let h = c.requires in
     let X = back d.x h.sized.x in
     let Y = back d.y h.sized.y in
