@@ -16,27 +16,6 @@ ghost use Rattle.calls_editor.specs.Answers.{Fits, replace_answer, insert_answer
 
 use chart_opening::{Refusal, Settings};
 
-// The later of 1 and k.
-fn from_one(k: usize) -> usize
-    ensures { result ≡ max 1 k }
-{
-    if k < 1 { 1 } else { k }
-}
-
-// The smaller of two numbers.
-fn smaller(a: usize, b: usize) -> usize
-    ensures { result ≡ min a b }
-{
-    if b < a { b } else { a }
-}
-
-// The place before k, 0 for the first.
-fn before(k: usize) -> usize
-    ensures { result ≡ k - 1 }
-{
-    if 0 < k { k - 1 } else { 0 }
-}
-
 // Fills entries 1 to N - 1 of an accepted chart's tables, under a player's settings.
 pub fn fill_tables(chart: &[u8], set: Settings, records: &mut [f64], values: &mut [f64])
     requires { Fits chart.now (length records.old) (length values.old) }
@@ -49,7 +28,12 @@ pub fn fill_tables(chart: &[u8], set: Settings, records: &mut [f64], values: &mu
 }
 
 // Checks a chart under the second player's settings and fills that player's tables.
-pub fn open_as(chart: &[u8], settings: &[u8], records: &mut [f64], values: &mut [f64]) -> Result<(), Refusal>
+pub fn open_as(
+    chart: &[u8],
+    settings: &[u8],
+    records: &mut [f64],
+    values: &mut [f64],
+) -> Result<(), Refusal>
     ensures answer { result
         ≡ open_answer_as settings.now (state chart.now records.old values.old) }
     ensures leaves { state chart.now records.new values.new
@@ -75,10 +59,7 @@ pub fn open(chart: &[u8], records: &mut [f64], values: &mut [f64]) -> Result<(),
     ensures leaves { state chart.now records.new values.new
         ≡ open_leaves (state chart.now records.old values.old) }
 {
-    if chart.len() < chart_fields::HEADER_SIZE {
-        return Err(Refusal::Header);
-    }
-    open_as(chart, &chart[32..80], records, values)
+    open_as(chart, calls::own_settings(chart)?, records, values)
 }
 
 // Makes anew what an edit at a place can have changed, under a player's settings: the records from that place to before records_end from the chart, and the
@@ -98,24 +79,9 @@ fn bring_up_to_date(
 {
     let lay = chart_opening::layout_of(chart);
     let n = lay.n;
-    osu_records::fill_range(
-        chart,
-        lay,
-        set,
-        from_one(place),
-        smaller(records_end, n),
-        records,
-    );
-    let from = from_one(before(place));
-    eval_values::fill_values(
-        values,
-        records,
-        chart,
-        lay,
-        set,
-        from,
-        smaller(values_end, n),
-    );
+    osu_records::fill_range(chart, lay, set, place.max(1), records_end.min(n), records);
+    let from = place.saturating_sub(1).max(1);
+    eval_values::fill_values(values, records, chart, lay, set, from, values_end.min(n));
 }
 
 // Makes anew what another object at a place can have changed, once the chart has it.
@@ -150,72 +116,24 @@ pub fn replace(
     Ok(())
 }
 
-// The larger of two numbers.
-fn larger(a: usize, b: usize) -> usize
-    ensures { result ≡ max a b }
-{
-    if a < b { b } else { a }
-}
-
-// Moves rows from to before to of the record table one place up, with their objects.
-fn records_up(records: &mut [f64], from: usize, to: usize)
-    requires { record_width * (to + 1) ≤ length records.old }
-    ensures { records.new ≡ rows_up record_width from to records.old }
+// Moves rows from to before to of a table one place up, with their objects.
+fn rows_up(table: &mut [f64], width: usize, from: usize, to: usize)
+    requires { width * (to + 1) ≤ length table.old }
+    ensures { table.new ≡ rows_up width from to table.old }
 {
     if from < to {
-        num_tables::move_part(
-            records,
-            calls::RECORD_WIDTH * from,
-            calls::RECORD_WIDTH * (from + 1),
-            calls::RECORD_WIDTH * (to - from),
-        );
+        num_tables::move_part(table, width * from, width * (from + 1), width * (to - from));
     }
 }
 
-// Moves the rows behind from to before to of the record table one place down.
-fn records_down(records: &mut [f64], from: usize, to: usize)
-    requires { (from ≤ to) × (record_width * to ≤ length records.old) }
-    ensures { records.new ≡ rows_down record_width from to records.old }
+// Moves the rows behind from to before to of a table one place down.
+fn rows_down(table: &mut [f64], width: usize, from: usize, to: usize)
+    requires { (from ≤ to) × (width * to ≤ length table.old) }
+    ensures { table.new ≡ rows_down width from to table.old }
 {
-    let next = from + 1;
-    if next < to {
-        num_tables::move_part(
-            records,
-            calls::RECORD_WIDTH * next,
-            calls::RECORD_WIDTH * from,
-            calls::RECORD_WIDTH * (to - next),
-        );
-    }
-}
-
-// Moves rows from to before to of the value table one place up, with their objects.
-fn values_up(values: &mut [f64], from: usize, to: usize)
-    requires { value_width * (to + 1) ≤ length values.old }
-    ensures { values.new ≡ rows_up value_width from to values.old }
-{
-    if from < to {
-        num_tables::move_part(
-            values,
-            calls::VALUE_WIDTH * from,
-            calls::VALUE_WIDTH * (from + 1),
-            calls::VALUE_WIDTH * (to - from),
-        );
-    }
-}
-
-// Moves the rows behind from to before to of the value table one place down.
-fn values_down(values: &mut [f64], from: usize, to: usize)
-    requires { (from ≤ to) × (value_width * to ≤ length values.old) }
-    ensures { values.new ≡ rows_down value_width from to values.old }
-{
-    let next = from + 1;
-    if next < to {
-        num_tables::move_part(
-            values,
-            calls::VALUE_WIDTH * next,
-            calls::VALUE_WIDTH * from,
-            calls::VALUE_WIDTH * (to - next),
-        );
+    if 1 < to - from {
+        let next = from + 1;
+        num_tables::move_part(table, width * next, width * from, width * (to - next));
     }
 }
 
@@ -228,10 +146,10 @@ fn insert_rows(chart: &[u8], set: Settings, place: usize, records: &mut [f64], v
         records.new (rows_up value_width (first_moved place) ((layout_of chart.now).n - 1) values.old) }
 {
     let n = chart_opening::layout_of(chart).n;
-    let from = from_one(place);
-    records_up(records, from, n - 1);
-    values_up(values, from, n - 1);
-    let end = larger(place + 3, 4);
+    let from = place.max(1);
+    rows_up(records, calls::RECORD_WIDTH, from, n - 1);
+    rows_up(values, calls::VALUE_WIDTH, from, n - 1);
+    let end = (place + 3).max(4);
     bring_up_to_date(chart, set, place, end, place + 34, records, values);
 }
 
@@ -267,15 +185,20 @@ fn remove_rows(chart: &[u8], set: Settings, place: usize, records: &mut [f64], v
         records.new (rows_down value_width (first_moved place) ((layout_of chart.now).n + 1) values.old) }
 {
     let n = chart_opening::layout_of(chart).n;
-    let from = from_one(place);
-    records_down(records, from, n + 1);
-    values_down(values, from, n + 1);
-    let end = larger(place + 2, 3);
+    let from = place.max(1);
+    rows_down(records, calls::RECORD_WIDTH, from, n + 1);
+    rows_down(values, calls::VALUE_WIDTH, from, n + 1);
+    let end = (place + 2).max(3);
     bring_up_to_date(chart, set, place, end, place + 33, records, values);
 }
 
 // Takes the object at a place out: what lies behind it moves down, and rows with their objects.
-pub fn remove(chart: &mut [u8], place: usize, records: &mut [f64], values: &mut [f64]) -> Result<(), Refusal>
+pub fn remove(
+    chart: &mut [u8],
+    place: usize,
+    records: &mut [f64],
+    values: &mut [f64],
+) -> Result<(), Refusal>
     ensures { outcome_with (remove_answer result) chart.new records.new values.new
         ≡ outcome (ops.remove place) (state chart.old records.old values.old) }
 {

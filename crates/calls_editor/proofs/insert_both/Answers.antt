@@ -31,21 +31,21 @@ insert_rows-requires c = let a = c.args in let w = both_accepted _ _ ((λ i. bot
 pub settings_at-second-requires : goal.settings_at-second-requires
 settings_at-second-requires c = let a = c.args in let w = both_accepted _ _ ((λ i. both_verdict (insert_verdict a.chart.now a.place a.object.now (sym c.entries_in.ensures i)) (second_verdict a.settings.now a.chart.now (insert_verdict (under a.settings.now a.chart.now) a.place a.object.now (sym c.entries_in-2.ensures i)))) ∙ (sym c.insert_both.ensures.answer ∙ c.in_ok-insert_both.was)) in let f = (inserted_fits_second a.chart.now a.place a.object.now (length a.second_records.now) (length a.second_values.now) a.settings.now (inserted a.chart.now a.place a.object.now _ w.0) w.1).1 in omega (arith, f)
 
-pub insert_rows-requires : goal.insert_rows-requires
-insert_rows-requires c = let a = c.args in let w = both_accepted _ _ ((λ i. both_verdict (insert_verdict a.chart.now a.place a.object.now (sym c.entries_in.ensures i)) (second_verdict a.settings.now a.chart.now (insert_verdict (under a.settings.now a.chart.now) a.place a.object.now (sym c.entries_in-2.ensures i)))) ∙ (sym c.insert_both.ensures.answer ∙ c.in_ok-insert_both.was)) in let f = inserted_fits_second a.chart.now a.place a.object.now (length a.second_records.now) (length a.second_values.now) a.settings.now (inserted a.chart.now a.place a.object.now _ w.0) w.1 in let q = chart_after _ _ _ _ c.insert_both.ensures.chart c.in_ok-insert_both.was in rw q f.0
+pub insert_rows-requires-2 : goal.insert_rows-requires-2
+insert_rows-requires-2 c = let a = c.args in let w = both_accepted _ _ ((λ i. both_verdict (insert_verdict a.chart.now a.place a.object.now (sym c.entries_in.ensures i)) (second_verdict a.settings.now a.chart.now (insert_verdict (under a.settings.now a.chart.now) a.place a.object.now (sym c.entries_in-2.ensures i)))) ∙ (sym c.insert_both.ensures.answer ∙ c.in_ok-insert_both.was)) in let f = inserted_fits_second a.chart.now a.place a.object.now (length a.second_records.now) (length a.second_values.now) a.settings.now (inserted a.chart.now a.place a.object.now _ w.0) w.1 in let q = chart_after _ _ _ _ c.insert_both.ensures.chart c.in_ok-insert_both.was in rw q f.0
 
 pub returns-in_err-insert_both : goal.returns-in_err-insert_both
 returns-in_err-insert_both c =
     let p = err_from_is_err_and c.from_residual.result c.from_residual.ensures.1 in
     rw (p.1, p.2) (
-   let a = c.args in let v = (λ i. both_verdict (insert_verdict a.chart.now a.place a.object.now (sym c.entries_in.ensures i)) (second_verdict a.settings.now a.chart.now (insert_verdict (under a.settings.now a.chart.now) a.place a.object.now (sym c.entries_in-2.ensures i)))) ∙ (sym c.insert_both.ensures.answer ∙ c.in_err-insert_both.was) in let q = chart_kept _ _ _ _ c.insert_both.ensures.chart c.in_err-insert_both.was in record {
-    answer = insert_both_is a.settings.now a.chart.now a.records.now a.values.now a.second_records.now a.second_values.now a.place a.object.now _ (sym v);
-    leaves = (λ i. pair (q i) a.records.now a.values.now a.second_records.now a.second_values.now) ∙ sym (both_kept a.settings.now (insert a.place a.object.now) (pair a.chart.now a.records.now a.values.now a.second_records.now a.second_values.now) _ (sym (insert_both_is a.settings.now a.chart.now a.records.now a.values.now a.second_records.now a.second_values.now a.place a.object.now _ refl) ∙ v));
-  }
+    let a = c.args in let v = (λ i. both_verdict (insert_verdict a.chart.now a.place a.object.now (sym c.entries_in.ensures i)) (second_verdict a.settings.now a.chart.now (insert_verdict (under a.settings.now a.chart.now) a.place a.object.now (sym c.entries_in-2.ensures i)))) ∙ (sym c.insert_both.ensures.answer ∙ c.in_err-insert_both.was) in let q = chart_kept _ _ _ _ c.insert_both.ensures.chart c.in_err-insert_both.was in record {
+      answer = insert_both_is a.settings.now a.chart.now a.records.now a.values.now a.second_records.now a.second_values.now a.place a.object.now _ (sym v);
+      leaves = (λ i. pair (q i) a.records.now a.values.now a.second_records.now a.second_values.now) ∙ sym (both_kept a.settings.now (insert a.place a.object.now) (pair a.chart.now a.records.now a.values.now a.second_records.now a.second_values.now) _ (sym (insert_both_is a.settings.now a.chart.now a.records.now a.values.now a.second_records.now a.second_values.now a.place a.object.now _ refl) ∙ v));
+    }
     )
 
 pub returns : goal.returns
-returns c = let a = c.args in let v = (λ i. both_verdict (insert_verdict a.chart.now a.place a.object.now (sym c.entries_in.ensures i)) (second_verdict a.settings.now a.chart.now (insert_verdict (under a.settings.now a.chart.now) a.place a.object.now (sym c.entries_in-2.ensures i)))) ∙ (sym c.insert_both.ensures.answer ∙ c.in_ok-insert_both.was) in let q = chart_after _ _ _ _ c.insert_both.ensures.chart c.in_ok-insert_both.was in let n = (ap (λ (b : List ℕ). (layout_of b).n - 1) q ∙ count_less (inserted_more a.chart.now a.place a.object.now (inserted a.chart.now a.place a.object.now _ (both_accepted _ _ v).0)).counts) in let s = c.settings_at-set.ensures ∙ ap settings_of q in let r = c.insert_rows.ensures.records ∙ (λ i. edit_records (s i) (q i) a.place (inserted_records a.place) (rows_up record_width (first_moved a.place) (n i) a.records.now)) in let w = c.insert_rows.ensures.values ∙ (λ i. edit_values (s i) (q i) a.place (inserted_values a.place) (r i) (rows_up value_width (first_moved a.place) (n i) a.values.now)) in let s2 = c.settings_at-second.ensures in let r2 = c.insert_rows.ensures.records ∙ (λ i. edit_records (s2 i) (q i) a.place (inserted_records a.place) (rows_up record_width (first_moved a.place) (n i) a.second_records.now)) in let w2 = c.insert_rows.ensures.values ∙ (λ i. edit_values (s2 i) (q i) a.place (inserted_values a.place) (r2 i) (rows_up value_width (first_moved a.place) (n i) a.second_values.now)) in record {
+returns c = let a = c.args in let v = (λ i. both_verdict (insert_verdict a.chart.now a.place a.object.now (sym c.entries_in.ensures i)) (second_verdict a.settings.now a.chart.now (insert_verdict (under a.settings.now a.chart.now) a.place a.object.now (sym c.entries_in-2.ensures i)))) ∙ (sym c.insert_both.ensures.answer ∙ c.in_ok-insert_both.was) in let q = chart_after _ _ _ _ c.insert_both.ensures.chart c.in_ok-insert_both.was in let n = (ap (λ (b : List ℕ). (layout_of b).n - 1) q ∙ count_less (inserted_more a.chart.now a.place a.object.now (inserted a.chart.now a.place a.object.now _ (both_accepted _ _ v).0)).counts) in let s = c.settings_at-set.ensures ∙ ap settings_of q in let r = c.insert_rows.ensures.records ∙ (λ i. edit_records (s i) (q i) a.place (inserted_records a.place) (rows_up record_width (first_moved a.place) (n i) a.records.now)) in let w = c.insert_rows.ensures.values ∙ (λ i. edit_values (s i) (q i) a.place (inserted_values a.place) (r i) (rows_up value_width (first_moved a.place) (n i) a.values.now)) in let s2 = c.settings_at-second.ensures in let r2 = c.insert_rows-2.ensures.records ∙ (λ i. edit_records (s2 i) (q i) a.place (inserted_records a.place) (rows_up record_width (first_moved a.place) (n i) a.second_records.now)) in let w2 = c.insert_rows-2.ensures.values ∙ (λ i. edit_values (s2 i) (q i) a.place (inserted_values a.place) (r2 i) (rows_up value_width (first_moved a.place) (n i) a.second_values.now)) in record {
   answer = insert_both_is a.settings.now a.chart.now a.records.now a.values.now a.second_records.now a.second_values.now a.place a.object.now _ (sym v);
   leaves = (λ i. pair (q i) (r i) (w i) (r2 i) (w2 i)) ∙ sym (insert_both_left a.settings.now a.chart.now a.records.now a.values.now a.second_records.now a.second_values.now a.place a.object.now v);
 }

@@ -22,10 +22,10 @@ pub returns-in_err-check_as : goal.returns-in_err-check_as
 returns-in_err-check_as c =
     let p = err_from_is_err_and c.from_residual.result c.from_residual.ensures.1 in
     rw (p.1, p.2) (
-   let a = c.args in let v = ap (λ (n : ℕ). second_verdict a.settings.now a.chart.now (open_verdict (under a.settings.now a.chart.now) n)) (sym c.entries_in.ensures) ∙ (sym c.check_as.ensures ∙ c.in_err-check_as.was) in record {
-    answer = open_as_is a.settings.now a.chart.now a.records.now a.values.now _ (sym v);
-    leaves = sym (open_as_refused a.settings.now a.chart.now a.records.now a.values.now _ v);
-  }
+    let a = c.args in let v = ap (λ (n : ℕ). second_verdict a.settings.now a.chart.now (open_verdict (under a.settings.now a.chart.now) n)) (sym c.entries_in.ensures) ∙ (sym c.check_as.ensures ∙ c.in_err-check_as.was) in record {
+      answer = open_as_is a.settings.now a.chart.now a.records.now a.values.now _ (sym v);
+      leaves = sym (open_as_refused a.settings.now a.chart.now a.records.now a.values.now _ v);
+    }
     )
 
 pub returns : goal.returns

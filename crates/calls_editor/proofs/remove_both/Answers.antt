@@ -31,21 +31,21 @@ remove_rows-requires c = let a = c.args in let w = both_accepted _ _ ((λ i. bot
 pub settings_at-second-requires : goal.settings_at-second-requires
 settings_at-second-requires c = let a = c.args in let w = both_accepted _ _ ((λ i. both_verdict (remove_verdict a.chart.now a.place (sym c.entries_in.ensures i)) (second_verdict a.settings.now a.chart.now (remove_verdict (under a.settings.now a.chart.now) a.place (sym c.entries_in-2.ensures i)))) ∙ (sym c.remove_both.ensures.answer ∙ c.in_ok-remove_both.was)) in let f = (removed_fits_second a.chart.now a.place (length a.second_records.now) (length a.second_values.now) a.settings.now (removed a.chart.now a.place _ w.0) w.1).1 in omega (arith, f)
 
-pub remove_rows-requires : goal.remove_rows-requires
-remove_rows-requires c = let a = c.args in let w = both_accepted _ _ ((λ i. both_verdict (remove_verdict a.chart.now a.place (sym c.entries_in.ensures i)) (second_verdict a.settings.now a.chart.now (remove_verdict (under a.settings.now a.chart.now) a.place (sym c.entries_in-2.ensures i)))) ∙ (sym c.remove_both.ensures.answer ∙ c.in_ok-remove_both.was)) in let f = removed_fits_second a.chart.now a.place (length a.second_records.now) (length a.second_values.now) a.settings.now (removed a.chart.now a.place _ w.0) w.1 in let q = chart_after _ _ _ _ c.remove_both.ensures.chart c.in_ok-remove_both.was in rw q f.0
+pub remove_rows-requires-2 : goal.remove_rows-requires-2
+remove_rows-requires-2 c = let a = c.args in let w = both_accepted _ _ ((λ i. both_verdict (remove_verdict a.chart.now a.place (sym c.entries_in.ensures i)) (second_verdict a.settings.now a.chart.now (remove_verdict (under a.settings.now a.chart.now) a.place (sym c.entries_in-2.ensures i)))) ∙ (sym c.remove_both.ensures.answer ∙ c.in_ok-remove_both.was)) in let f = removed_fits_second a.chart.now a.place (length a.second_records.now) (length a.second_values.now) a.settings.now (removed a.chart.now a.place _ w.0) w.1 in let q = chart_after _ _ _ _ c.remove_both.ensures.chart c.in_ok-remove_both.was in rw q f.0
 
 pub returns-in_err-remove_both : goal.returns-in_err-remove_both
 returns-in_err-remove_both c =
     let p = err_from_is_err_and c.from_residual.result c.from_residual.ensures.1 in
     rw (p.1, p.2) (
-   let a = c.args in let v = (λ i. both_verdict (remove_verdict a.chart.now a.place (sym c.entries_in.ensures i)) (second_verdict a.settings.now a.chart.now (remove_verdict (under a.settings.now a.chart.now) a.place (sym c.entries_in-2.ensures i)))) ∙ (sym c.remove_both.ensures.answer ∙ c.in_err-remove_both.was) in let q = chart_kept _ _ _ _ c.remove_both.ensures.chart c.in_err-remove_both.was in record {
-    answer = remove_both_is a.settings.now a.chart.now a.records.now a.values.now a.second_records.now a.second_values.now a.place _ (sym v);
-    leaves = (λ i. pair (q i) a.records.now a.values.now a.second_records.now a.second_values.now) ∙ sym (both_kept a.settings.now (remove a.place) (pair a.chart.now a.records.now a.values.now a.second_records.now a.second_values.now) _ (sym (remove_both_is a.settings.now a.chart.now a.records.now a.values.now a.second_records.now a.second_values.now a.place _ refl) ∙ v));
-  }
+    let a = c.args in let v = (λ i. both_verdict (remove_verdict a.chart.now a.place (sym c.entries_in.ensures i)) (second_verdict a.settings.now a.chart.now (remove_verdict (under a.settings.now a.chart.now) a.place (sym c.entries_in-2.ensures i)))) ∙ (sym c.remove_both.ensures.answer ∙ c.in_err-remove_both.was) in let q = chart_kept _ _ _ _ c.remove_both.ensures.chart c.in_err-remove_both.was in record {
+      answer = remove_both_is a.settings.now a.chart.now a.records.now a.values.now a.second_records.now a.second_values.now a.place _ (sym v);
+      leaves = (λ i. pair (q i) a.records.now a.values.now a.second_records.now a.second_values.now) ∙ sym (both_kept a.settings.now (remove a.place) (pair a.chart.now a.records.now a.values.now a.second_records.now a.second_values.now) _ (sym (remove_both_is a.settings.now a.chart.now a.records.now a.values.now a.second_records.now a.second_values.now a.place _ refl) ∙ v));
+    }
     )
 
 pub returns : goal.returns
-returns c = let a = c.args in let v = (λ i. both_verdict (remove_verdict a.chart.now a.place (sym c.entries_in.ensures i)) (second_verdict a.settings.now a.chart.now (remove_verdict (under a.settings.now a.chart.now) a.place (sym c.entries_in-2.ensures i)))) ∙ (sym c.remove_both.ensures.answer ∙ c.in_ok-remove_both.was) in let q = chart_after _ _ _ _ c.remove_both.ensures.chart c.in_ok-remove_both.was in let n = (ap (λ (b : List ℕ). (layout_of b).n + 1) q ∙ count_more (removed_more a.chart.now a.place (removed a.chart.now a.place _ (both_accepted _ _ v).0)).counts) in let s = c.settings_at-set.ensures ∙ ap settings_of q in let r = c.remove_rows.ensures.records ∙ (λ i. edit_records (s i) (q i) a.place (removed_records a.place) (rows_down record_width (first_moved a.place) (n i) a.records.now)) in let w = c.remove_rows.ensures.values ∙ (λ i. edit_values (s i) (q i) a.place (removed_values a.place) (r i) (rows_down value_width (first_moved a.place) (n i) a.values.now)) in let s2 = c.settings_at-second.ensures in let r2 = c.remove_rows.ensures.records ∙ (λ i. edit_records (s2 i) (q i) a.place (removed_records a.place) (rows_down record_width (first_moved a.place) (n i) a.second_records.now)) in let w2 = c.remove_rows.ensures.values ∙ (λ i. edit_values (s2 i) (q i) a.place (removed_values a.place) (r2 i) (rows_down value_width (first_moved a.place) (n i) a.second_values.now)) in record {
+returns c = let a = c.args in let v = (λ i. both_verdict (remove_verdict a.chart.now a.place (sym c.entries_in.ensures i)) (second_verdict a.settings.now a.chart.now (remove_verdict (under a.settings.now a.chart.now) a.place (sym c.entries_in-2.ensures i)))) ∙ (sym c.remove_both.ensures.answer ∙ c.in_ok-remove_both.was) in let q = chart_after _ _ _ _ c.remove_both.ensures.chart c.in_ok-remove_both.was in let n = (ap (λ (b : List ℕ). (layout_of b).n + 1) q ∙ count_more (removed_more a.chart.now a.place (removed a.chart.now a.place _ (both_accepted _ _ v).0)).counts) in let s = c.settings_at-set.ensures ∙ ap settings_of q in let r = c.remove_rows.ensures.records ∙ (λ i. edit_records (s i) (q i) a.place (removed_records a.place) (rows_down record_width (first_moved a.place) (n i) a.records.now)) in let w = c.remove_rows.ensures.values ∙ (λ i. edit_values (s i) (q i) a.place (removed_values a.place) (r i) (rows_down value_width (first_moved a.place) (n i) a.values.now)) in let s2 = c.settings_at-second.ensures in let r2 = c.remove_rows-2.ensures.records ∙ (λ i. edit_records (s2 i) (q i) a.place (removed_records a.place) (rows_down record_width (first_moved a.place) (n i) a.second_records.now)) in let w2 = c.remove_rows-2.ensures.values ∙ (λ i. edit_values (s2 i) (q i) a.place (removed_values a.place) (r2 i) (rows_down value_width (first_moved a.place) (n i) a.second_values.now)) in record {
   answer = remove_both_is a.settings.now a.chart.now a.records.now a.values.now a.second_records.now a.second_values.now a.place _ (sym v);
   leaves = (λ i. pair (q i) (r i) (w i) (r2 i) (w2 i)) ∙ sym (remove_both_left a.settings.now a.chart.now a.records.now a.values.now a.second_records.now a.second_values.now a.place v);
 }
