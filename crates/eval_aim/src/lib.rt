@@ -356,7 +356,7 @@ fn spacing(chart: &[u8], lay: Layout, before: usize, j: usize, last: Pos) -> f32
 {
     if 3 <= before {
         let far = osu_object::base_at(chart, lay, j - 3);
-        return far.pos.sub(last).length();
+        return (far.pos - last).length();
     }
     0.0
 }

@@ -180,7 +180,7 @@ impl FlashlightEvaluator {
                 angle_repeat_count: s.angle_repeat_count,
             };
         }
-        let jump_dist = num_floats::widen(base.pos.sub(end).length());
+        let jump_dist = num_floats::widen((base.pos - end).length());
         let opacity_bonus = self.opacity_bonus(base.start_time, obj_base.start_time, hidden);
         let added = self.added(o.lazy_jump_dist, jump_dist, opacity_bonus, time);
         FlashlightState {

@@ -1,19 +1,19 @@
 // The cursor of a slider: where it ends, how far and how long it travels.
-ghost use Rattle.std.specs.Prelude.{◌≡◌, ◌+◌, ◌<◌, ◌≤◌};
-ghost use Rattle.osu_object.specs.Osu.{Slides, nested_list, point_list, is_tick};
+ghost use Rattle.std.specs.Prelude.{◌≡◌, ◌+◌, ◌<◌, ◌≤◌, MatchOption};
+ghost use Rattle.osu_object.specs.Osu.{nested_list, point_list, is_tick};
 ghost use Rattle.osu_difficulty_object.specs.Cursor.{last_tick, tracking_end, tracking_of, order_of, folded_of, movement_of};
 ghost use Rattle.osu_difficulty_object.specs.Cursor.{required_of, advanced_of, step_of, run_of, start_of, slider_cursor};
 
 use crate::OsuDifficultyObject;
 use chart_entries::Nested;
-use chart_fields::Layout;
-use osu_object::{OsuObject, Runs};
+use osu_object::{OsuObject, OsuSlider};
 use osu_pos::Pos;
 
 // A slider is tracked until this long before its end, in milliseconds.
 const TAIL_LENIENCY: f64 = -36.0;
 
 // The place from which the order of entries is turned, the number of entries if it stays, and the tracking end time.
+// `moved` is no Option: the theorems of test_examples on `tracking_of` have the number of entries for an order that stays.
 #[derive(Clone, Copy)]
 pub struct Tracking {
     pub moved: usize,
@@ -38,27 +38,24 @@ pub struct Cursor {
 }
 
 // Whether nested entry k is a tick.
-fn is_tick(chart: &[u8], lay: Layout, r: Runs, k: usize) -> bool
-    requires { Slides chart.now lay r × (k < r.nested_count) }
-    ensures { result ≡ is_tick (nested_list chart.now lay r) k }
+fn is_tick(slider: &OsuSlider, k: usize) -> bool
+    requires { k < slider.now.runs.nested_count }
+    ensures { result ≡ is_tick (nested_list slider.now.chart.now slider.now.lay slider.now.runs) k }
 {
-    let e = osu_object::nested(chart, lay, r, k);
-    e.kind == chart_entries::TICK
+    slider.nested(k).kind == chart_entries::TICK
 }
 
-// The last tick's place plus 1, or 0 without ticks.
-fn last_tick(chart: &[u8], lay: Layout, r: Runs) -> usize
-    requires { Slides chart.now lay r }
-    ensures { (result ≡ last_tick (nested_list chart.now lay r)) × (result ≤ r.nested_count) }
+// The last tick's place.
+fn last_tick(slider: &OsuSlider) -> Option<usize>
+    ensures { let last = last_tick (nested_list slider.now.chart.now slider.now.lay slider.now.runs) in
+        MatchOption result (last ≡ 0) (λ k. (last ≡ k + 1) × (k < slider.now.runs.nested_count)) }
 {
-    let mut k = r.nested_count;
-    while 0 < k {
-        if is_tick(chart, lay, r, k - 1) {
-            return k;
+    for k in (0..slider.runs.nested_count).rev() {
+        if is_tick(slider, k) {
+            return Some(k);
         }
-        k -= 1;
     }
-    k
+    None
 }
 
 // When tracking ends: 36 ms before the end, or half way where that is later.
@@ -69,27 +66,23 @@ fn tracking_end(start: f64, duration: f64) -> f64
 }
 
 // The last tick is taken last and ends the tracking where it starts after t, the end by the slider's times.
-fn tracking_of(chart: &[u8], lay: Layout, r: Runs, t: f64) -> Tracking
-    requires { Slides chart.now lay r }
-    ensures { (result ≡ tracking_of (nested_list chart.now lay r) t) × (result.moved ≤ r.nested_count) }
+fn tracking_of(slider: &OsuSlider, t: f64) -> Tracking
+    ensures { (result ≡ tracking_of (nested_list slider.now.chart.now slider.now.lay slider.now.runs) t) × (result.moved ≤ slider.now.runs.nested_count) }
 {
-    let m = last_tick(chart, lay, r);
-    if m == 0 {
-        return Tracking {
-            moved: r.nested_count,
-            end_time: t,
-        };
-    }
-    let tick = osu_object::nested(chart, lay, r, m - 1);
-    if tick.start > t {
-        return Tracking {
-            moved: m - 1,
-            end_time: tick.start,
-        };
-    }
-    Tracking {
-        moved: r.nested_count,
+    let in_order = Tracking {
+        moved: slider.runs.nested_count,
         end_time: t,
+    };
+    match last_tick(slider) {
+        None => in_order,
+        Some(moved) => {
+            let end_time = slider.nested(moved).start;
+            if end_time > t {
+                Tracking { moved, end_time }
+            } else {
+                in_order
+            }
+        }
     }
 }
 
@@ -135,12 +128,9 @@ impl CursorState {
     fn movement(self, e: Nested, stack_offset: Pos, last: bool) -> Pos
         ensures { result ≡ movement_of self e stack_offset last }
     {
-        let cursor = self.cursor;
-        let lazy_end = self.lazy_end;
-        let pos = Pos { x: e.x, y: e.y };
-        let movement = pos.add(stack_offset).sub(cursor);
+        let movement = Pos { x: e.x, y: e.y } + stack_offset - self.cursor;
         if last {
-            let lazy_movement = lazy_end.sub(cursor);
+            let lazy_movement = self.lazy_end - self.cursor;
             if lazy_movement.length() < movement.length() {
                 return lazy_movement;
             }
@@ -154,12 +144,9 @@ impl CursorState {
     {
         if movement_len > required {
             let share = (movement_len - required) / movement_len;
-            let cursor = self.cursor;
-            let lazy_end = self.lazy_end;
-            let next = cursor.add(movement.scaled(num_whole::f64_to_f32(share)));
             return CursorState {
-                cursor: next,
-                lazy_end: lazy_end,
+                cursor: self.cursor + movement * num_whole::f64_to_f32(share),
+                lazy_end: self.lazy_end,
                 travel_dist: self.travel_dist + movement_len * share,
             };
         }
@@ -174,10 +161,9 @@ impl CursorState {
         let movement_len = scaling_factor * num_floats::widen(movement.length());
         let next = self.advanced(movement, movement_len, required_movement(e.kind, last));
         if last {
-            let cursor = next.cursor;
             return CursorState {
-                cursor: cursor,
-                lazy_end: cursor,
+                cursor: next.cursor,
+                lazy_end: next.cursor,
                 travel_dist: next.travel_dist,
             };
         }
@@ -187,81 +173,60 @@ impl CursorState {
 
 // The walk over all entries.
 fn run(
-    chart: &[u8],
-    lay: Layout,
-    r: Runs,
+    slider: &OsuSlider,
     stack_offset: Pos,
     scaling_factor: f64,
     moved: usize,
     from: CursorState,
 ) -> CursorState
-    requires { Slides chart.now lay r }
-    ensures { result ≡ run_of (nested_list chart.now lay r) stack_offset scaling_factor moved r.nested_count from }
+    ensures { let ns = nested_list slider.now.chart.now slider.now.lay slider.now.runs in
+        result ≡ run_of ns stack_offset scaling_factor moved slider.now.runs.nested_count from }
 {
-    let count = r.nested_count;
+    let count = slider.runs.nested_count;
     let mut s = from;
-    let mut left = count;
-    while 0 < left {
-        let e = osu_object::nested(chart, lay, r, order(moved, count, count - left));
-        s = s.step(e, stack_offset, scaling_factor, left == 1);
-        left -= 1;
+    for k in 0..count {
+        let e = slider.nested(order(moved, count, k));
+        s = s.step(e, stack_offset, scaling_factor, k + 1 == count);
     }
     s
 }
 
 // Where the walk starts, and the lazy end before it.
-fn start_state(
-    chart: &[u8],
-    lay: Layout,
-    r: Runs,
-    head: Pos,
-    stated: f64,
-    progress: f64,
-) -> CursorState
-    requires { Slides chart.now lay r }
-    ensures { result ≡ start_of head (point_list chart.now lay r) stated progress }
+fn start_state(slider: &OsuSlider, head: Pos, stated: f64, progress: f64) -> CursorState
+    ensures { result ≡ start_of head (point_list slider.now.chart.now slider.now.lay slider.now.runs) stated progress }
 {
-    let path = osu_object::position_at(chart, lay, r, stated, folded(progress));
-    let lazy_end = head.add(path);
     CursorState {
         cursor: head,
-        lazy_end: lazy_end,
+        lazy_end: head + slider.position_at(stated, folded(progress)),
         travel_dist: 0.0,
     }
 }
 
-// What the record takes from the slider o with this end and these spans.
+// What the record takes from the slider, which is the object o with this end and these spans.
 pub fn compute_slider_cursor_pos(
-    chart: &[u8],
-    lay: Layout,
-    r: Runs,
+    slider: &OsuSlider,
     o: OsuObject,
     end: f64,
     spans: f64,
     radius: f64,
 ) -> Cursor
-    requires { Slides chart.now lay r }
-    ensures { result ≡ slider_cursor o end spans (nested_list chart.now lay r) (point_list chart.now lay r) radius }
+    ensures { let ns = nested_list slider.now.chart.now slider.now.lay slider.now.runs in
+        result ≡ slider_cursor o end spans ns (point_list slider.now.chart.now slider.now.lay slider.now.runs) radius }
 {
-    let start = o.start_time;
-    let stack_offset = o.stack_offset;
-    let duration = end - start;
-    let t = tracking_of(chart, lay, r, tracking_end(start, duration));
-    let travel_time = t.end_time - start;
+    let duration = end - o.start_time;
+    let t = tracking_of(slider, tracking_end(o.start_time, duration));
+    let travel_time = t.end_time - o.start_time;
     let from = start_state(
-        chart,
-        lay,
-        r,
+        slider,
         o.stacked_pos(),
         o.length,
         travel_time / (duration / spans),
     );
     let scaling_factor = OsuDifficultyObject::NORMALIZED_RADIUS as f64 / radius;
-    let s = run(chart, lay, r, stack_offset, scaling_factor, t.moved, from);
-    let lazy_end = s.lazy_end;
+    let s = run(slider, o.stack_offset, scaling_factor, t.moved, from);
     Cursor {
         has_lazy_end: true,
-        lazy_end: lazy_end,
+        lazy_end: s.lazy_end,
         lazy_travel_dist: s.travel_dist,
         lazy_travel_time: travel_time,
     }

@@ -10,7 +10,7 @@ ghost use Rattle.osu_difficulty_object.specs.Reading.{window_of, tapness_of, dou
 use chart_fields::Layout;
 use chart_opening::Settings;
 use cursor::Cursor;
-use osu_object::{OsuObject, OsuObjectKind, Runs};
+use osu_object::{OsuObject, OsuObjectKind, OsuSlider, Runs};
 use osu_pos::Pos;
 
 pub mod cursor;
@@ -71,6 +71,7 @@ pub struct OsuDifficultyObject {
     pub lazy_travel_time: f64,
     pub angle: f64,
     pub small_circle_bonus: f64,
+    // Flags by a rule of the project: the record is a struct of f64 and f32 fields with flags for angle and lazy end, returned by value.
     pub has_lazy_end: bool,
     pub has_angle: bool,
 }
@@ -243,17 +244,17 @@ pub fn placed_at(chart: &[u8], lay: Layout, i: usize, radius: f64) -> Placed
 {
     let f = chart_fields::fields_of(chart, lay, i);
     let base = OsuObject::new(f);
-    let kind = base.kind;
-    match kind {
+    match base.kind {
         OsuObjectKind::Circle => plain(base),
         OsuObjectKind::Spinner => plain(base),
         OsuObjectKind::Slider(end, spans) => {
-            let r = Runs::new(f);
+            let runs = Runs::from(f);
+            let slider = OsuSlider { chart, lay, runs };
             Placed {
                 base: base,
-                cursor: cursor::compute_slider_cursor_pos(chart, lay, r, base, end, spans, radius),
-                tail: osu_object::tail(chart, lay, r),
-                repeats: osu_object::repeat_count(chart, lay, r),
+                cursor: cursor::compute_slider_cursor_pos(&slider, base, end, spans, radius),
+                tail: slider.tail(),
+                repeats: slider.repeat_count(),
             }
         }
     }
@@ -263,14 +264,12 @@ pub fn placed_at(chart: &[u8], lay: Layout, i: usize, radius: f64) -> Placed
 fn travel_of(o: Placed, clock_rate: f64) -> Travel
     ensures { result ≡ travel_of o clock_rate }
 {
-    let base = o.base;
-    let cursor = o.cursor;
-    if base.is_slider() {
+    if o.base.is_slider() {
         return Travel {
-            dist: cursor.lazy_travel_dist
+            dist: o.cursor.lazy_travel_dist
                 * num_elementary::power(1.0 + o.repeats as f64 / REPEAT_SCALE, 1.0 / REPEAT_SCALE),
             time: num_floats::max(
-                cursor.lazy_travel_time / clock_rate,
+                o.cursor.lazy_travel_time / clock_rate,
                 OsuDifficultyObject::MIN_DELTA_TIME,
             ),
         };
@@ -285,12 +284,10 @@ fn travel_of(o: Placed, clock_rate: f64) -> Travel
 fn get_end_cursor_pos(o: Placed) -> Pos
     ensures { result ≡ end_cursor o }
 {
-    let base = o.base;
-    let cursor = o.cursor;
-    if cursor.has_lazy_end {
-        return cursor.lazy_end;
+    if o.cursor.has_lazy_end {
+        return o.cursor.lazy_end;
     }
-    base.stacked_pos()
+    o.base.stacked_pos()
 }
 
 // Where the cursor comes from. The object at place 0 has no record, so no lazy end.
@@ -298,9 +295,8 @@ fn get_end_cursor_pos(o: Placed) -> Pos
 fn last_cursor_pos(j: usize, last: Placed) -> Pos
     ensures { result ≡ last_cursor j last }
 {
-    let base = last.base;
     if j < 2 {
-        return base.stacked_pos();
+        return last.base.stacked_pos();
     }
     get_end_cursor_pos(last)
 }
@@ -309,9 +305,8 @@ fn last_cursor_pos(j: usize, last: Placed) -> Pos
 fn jump_dist(base: OsuObject, last_cursor: Pos, factor: f32) -> f64
     ensures { result ≡ jump_dist base last_cursor factor }
 {
-    let to = base.stacked_pos().scaled(factor);
-    let from = last_cursor.scaled(factor);
-    num_floats::widen(to.sub(from).length())
+    let jump = base.stacked_pos() * factor - last_cursor * factor;
+    num_floats::widen(jump.length())
 }
 
 // The time that is left for a jump after the slider before.
@@ -332,7 +327,7 @@ fn min_jump_time(adjusted: f64, lazy_travel_time: f64, clock_rate: f64) -> f64
 fn min_jump_dist(base: OsuObject, stacked_tail: Pos, factor: f32, lazy_dist: f64) -> f64
     ensures { result ≡ min_jump_dist base stacked_tail factor lazy_dist }
 {
-    let tail_jump_dist = stacked_tail.sub(base.stacked_pos()).length() * factor;
+    let tail_jump_dist = (stacked_tail - base.stacked_pos()).length() * factor;
     let diff = num_floats::widen(
         OsuDifficultyObject::MAX_SLIDER_RADIUS - OsuDifficultyObject::ASSUMED_SLIDER_RADIUS,
     );
@@ -344,15 +339,11 @@ fn min_jump_dist(base: OsuObject, stacked_tail: Pos, factor: f32, lazy_dist: f64
 fn slider_jump(set: Settings, adjusted: f64, base: OsuObject, last: Placed, lazy_dist: f64) -> Jump
     ensures { result ≡ slider_jump set adjusted base last lazy_dist }
 {
-    let last_base = last.base;
-    let cursor = last.cursor;
-    let tail = last.tail;
-    let stack_offset = last_base.stack_offset;
-    let stacked_tail = tail.add(stack_offset);
+    let stacked_tail = last.tail + last.base.stack_offset;
     Jump {
         lazy_dist: lazy_dist,
         min_dist: min_jump_dist(base, stacked_tail, set.factor, lazy_dist),
-        min_time: min_jump_time(adjusted, cursor.lazy_travel_time, set.clock_rate),
+        min_time: min_jump_time(adjusted, last.cursor.lazy_travel_time, set.clock_rate),
     }
 }
 
@@ -384,8 +375,8 @@ fn jump_of(set: Settings, j: usize, adjusted: f64, o: Placed, last: Placed) -> J
 fn angle_to(base: OsuObject, last_pos: Pos, last_cursor: Pos, last_last_cursor: Pos) -> f64
     ensures { result ≡ angle_to base last_pos last_cursor last_last_cursor }
 {
-    let v1 = last_last_cursor.sub(last_pos);
-    let v2 = base.stacked_pos().sub(last_cursor);
+    let v1 = last_last_cursor - last_pos;
+    let v2 = base.stacked_pos() - last_cursor;
     num_angle::angle(num_floats::widen(v1.dot(v2)), num_floats::widen(v1.det(v2)))
 }
 

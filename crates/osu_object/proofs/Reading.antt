@@ -1,4 +1,4 @@
--- An object of the chart, from what the calls that read it answer: `fields_of`, `OsuObject::new`, `Runs::new`. Assumes nothing.
+-- An object of the chart, from what the calls that read it answer: `fields_of`, `OsuObject::new`, `Runs::from`. Assumes nothing.
 use Prim.Native.Nat.{ℕ, ◌<◌}
 use mathlib.Core.Path.{◌≡◌, sym, ap, subst, ◌∙◌}
 use mathlib.Core.Bool.{true, false}

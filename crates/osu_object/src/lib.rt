@@ -1,19 +1,17 @@
 // An object of the chart, with its nested entries and the points of its path (src/osu/object.rs).
 #![tactic(auto)]
 
-ghost use Rattle.std.specs.Prelude.{◌≡◌, true, ◌+◌, ◌-◌, ◌<◌, length};
+ghost use Rattle.std.specs.Prelude.{◌≡◌, true, ◌<◌};
 ghost use Rattle.chart_fields.specs.Objects.{Holds};
-ghost use Rattle.osu_object.specs.Osu.{kind_of, osu_object, runs_of, object_of, stacked_pos, is_slider, is_spinner};
-ghost use Rattle.osu_object.specs.Osu.{Slides, Ready, nested_list, point_list, nested_in, point_in, is_repeat, repeat_count, tail_of, end_pos, stacked_end_pos};
+ghost use Rattle.osu_object.specs.Osu.{osu_object, object_of, stacked_pos, is_slider, is_spinner};
+ghost use Rattle.osu_object.specs.Osu.{Slides, Ready, nested_list, end_pos, stacked_end_pos};
 ghost use Rattle.osu_object.specs.Base.{base_of, end_of, repeats_of};
-ghost use Rattle.osu_object.specs.Path.{point_pos, reaches, segment_of, between, lookup_at, prolonged, whole_length, position_at};
 
-use chart_entries::{Nested, Point};
 use chart_fields::{Fields, Layout};
 use osu_pos::Pos;
+pub use slider::OsuSlider;
 
-// The last two lengths of a path, at least so far apart where its last segment is prolonged.
-const LEAST_APART: f64 = 0.001;
+mod slider;
 
 // A slider's kind carries its end time and span count.
 #[derive(Clone, Copy)]
@@ -43,23 +41,27 @@ pub struct Runs {
 }
 
 // The kind that a chart's number stands for; no object that opens has a fourth.
-fn kind_of(f: Fields) -> OsuObjectKind
-    ensures { result ≡ kind_of f }
-{
-    if f.kind == chart_fields::CIRCLE {
-        return OsuObjectKind::Circle;
+impl From<Fields> for OsuObjectKind {
+    ghost use Rattle.osu_object.specs.Osu.{kind_of};
+
+    ghost from_gives = { λ f k. k ≡ kind_of f };
+
+    fn from(f: Fields) -> OsuObjectKind {
+        match f.kind {
+            chart_fields::CIRCLE => OsuObjectKind::Circle,
+            chart_fields::SLIDER => OsuObjectKind::Slider(f.end, f.spans as f64),
+            _ => OsuObjectKind::Spinner,
+        }
     }
-    if f.kind == chart_fields::SLIDER {
-        return OsuObjectKind::Slider(f.end, f.spans as f64);
-    }
-    OsuObjectKind::Spinner
 }
 
-impl Runs {
-    // From the fields of the slider.
-    pub fn new(f: Fields) -> Runs
-        ensures { result ≡ runs_of f }
-    {
+// From the fields of the slider.
+impl From<Fields> for Runs {
+    ghost use Rattle.osu_object.specs.Osu.{runs_of};
+
+    ghost from_gives = { λ f r. r ≡ runs_of f };
+
+    fn from(f: Fields) -> Runs {
         Runs {
             nested_first: f.first_nested,
             nested_count: f.nested_count,
@@ -74,7 +76,6 @@ impl OsuObject {
     pub fn new(f: Fields) -> OsuObject
         ensures { result ≡ osu_object f }
     {
-        let kind = kind_of(f);
         OsuObject {
             pos: Pos { x: f.x, y: f.y },
             start_time: f.start,
@@ -82,7 +83,7 @@ impl OsuObject {
                 x: f.stack_x,
                 y: f.stack_y,
             },
-            kind: kind,
+            kind: OsuObjectKind::from(f),
             length: f.length,
         }
     }
@@ -91,33 +92,21 @@ impl OsuObject {
     pub fn stacked_pos(self) -> Pos
         ensures { result ≡ stacked_pos self }
     {
-        let pos = self.pos;
-        let stack_offset = self.stack_offset;
-        pos.add(stack_offset)
+        self.pos + self.stack_offset
     }
 
     // Whether it is a slider.
     pub fn is_slider(self) -> bool
         ensures { result ≡ is_slider self.kind }
     {
-        let kind = self.kind;
-        match kind {
-            OsuObjectKind::Circle => false,
-            OsuObjectKind::Spinner => false,
-            OsuObjectKind::Slider(_, _) => true,
-        }
+        matches!(self.kind, OsuObjectKind::Slider(_, _))
     }
 
     // Whether it is a spinner.
     pub fn is_spinner(self) -> bool
         ensures { result ≡ is_spinner self.kind }
     {
-        let kind = self.kind;
-        match kind {
-            OsuObjectKind::Circle => false,
-            OsuObjectKind::Spinner => true,
-            OsuObjectKind::Slider(_, _) => false,
-        }
+        matches!(self.kind, OsuObjectKind::Spinner)
     }
 
     // The position where the object ends: a slider's tail, of which r says where it stands.
@@ -125,11 +114,15 @@ impl OsuObject {
         requires { is_slider self.kind ≡ true → Slides chart.now lay r }
         ensures { result ≡ end_pos self (nested_list chart.now lay r) }
     {
-        let kind = self.kind;
-        match kind {
+        match self.kind {
             OsuObjectKind::Circle => self.pos,
             OsuObjectKind::Spinner => self.pos,
-            OsuObjectKind::Slider(_, _) => tail(chart, lay, r),
+            OsuObjectKind::Slider(_, _) => OsuSlider {
+                chart,
+                lay,
+                runs: r,
+            }
+            .tail(),
         }
     }
 
@@ -138,156 +131,8 @@ impl OsuObject {
         requires { is_slider self.kind ≡ true → Slides chart.now lay r }
         ensures { result ≡ stacked_end_pos self (nested_list chart.now lay r) }
     {
-        let end = self.end_pos(chart, lay, r);
-        let stack_offset = self.stack_offset;
-        end.add(stack_offset)
+        self.end_pos(chart, lay, r) + self.stack_offset
     }
-}
-
-// Nested entry k of a slider.
-pub fn nested(chart: &[u8], lay: Layout, r: Runs, k: usize) -> Nested
-    requires { Slides chart.now lay r × (k < r.nested_count) }
-    ensures { result ≡ nested_in (nested_list chart.now lay r) k }
-{
-    chart_entries::nested_of(chart, lay, r.nested_first + k)
-}
-
-// Point k of a slider's path.
-pub fn point(chart: &[u8], lay: Layout, r: Runs, k: usize) -> Point
-    requires { Slides chart.now lay r × (k < r.point_count) }
-    ensures { result ≡ point_in (point_list chart.now lay r) k }
-{
-    chart_entries::point_of(chart, lay, r.point_first + k)
-}
-
-// The position of the tail, which is the last entry.
-pub fn tail(chart: &[u8], lay: Layout, r: Runs) -> Pos
-    requires { Slides chart.now lay r }
-    ensures { result ≡ tail_of (nested_list chart.now lay r) }
-{
-    let e = nested(chart, lay, r, r.nested_count - 1);
-    Pos { x: e.x, y: e.y }
-}
-
-// Whether nested entry k is a repeat.
-fn is_repeat(chart: &[u8], lay: Layout, r: Runs, k: usize) -> bool
-    requires { Slides chart.now lay r × (k < r.nested_count) }
-    ensures { result ≡ is_repeat (nested_list chart.now lay r) k }
-{
-    let e = nested(chart, lay, r, k);
-    e.kind == chart_entries::REPEAT
-}
-
-// How many nested entries are repeats.
-pub fn repeat_count(chart: &[u8], lay: Layout, r: Runs) -> u32
-    requires { Slides chart.now lay r }
-    ensures { result ≡ repeat_count (nested_list chart.now lay r) }
-{
-    let mut left = r.nested_count;
-    let mut n = 0u32;
-    while 0 < left {
-        left -= 1;
-        if is_repeat(chart, lay, r, left) {
-            n += 1;
-        }
-    }
-    n
-}
-
-// Whether the path is at least d long at point k.
-fn reached(chart: &[u8], lay: Layout, r: Runs, d: f64, k: usize) -> bool
-    requires { Slides chart.now lay r × (k < r.point_count) }
-    ensures { result ≡ reaches (point_list chart.now lay r) d k }
-{
-    let p = point(chart, lay, r, k);
-    d <= p.length
-}
-
-// The first point with a length of at least d, the last if there is none.
-fn segment(chart: &[u8], lay: Layout, r: Runs, d: f64) -> usize
-    requires { Slides chart.now lay r }
-    ensures { (result ≡ segment_of (point_list chart.now lay r) d) × (result < r.point_count) }
-{
-    let last = r.point_count - 1;
-    let mut i = 0;
-    while i < last {
-        if reached(chart, lay, r, d, i) {
-            return i;
-        }
-        i += 1;
-    }
-    i
-}
-
-// The position of a point, relative to the head.
-fn point_pos(p: Point) -> Pos
-    ensures { result ≡ point_pos p }
-{
-    Pos { x: p.x, y: p.y }
-}
-
-// The position at length d on the line from a to b.
-fn on_line(a: Point, b: Point, d: f64) -> Pos
-    ensures { result ≡ between a b d }
-{
-    let from = Pos { x: a.x, y: a.y };
-    let to = Pos { x: b.x, y: b.y };
-    let w = num_whole::f64_to_f32((d - a.length) / (b.length - a.length));
-    from.add(to.sub(from).scaled(w))
-}
-
-// The position at length d on the path as it is drawn.
-fn on_path(chart: &[u8], lay: Layout, r: Runs, d: f64) -> Pos
-    requires { Slides chart.now lay r }
-    ensures { result ≡ lookup_at (point_list chart.now lay r) d (segment_of (point_list chart.now lay r) d) }
-{
-    let i = segment(chart, lay, r, d);
-    let p1 = point(chart, lay, r, i);
-    if i == 0 {
-        return point_pos(p1);
-    }
-    let p0 = point(chart, lay, r, i - 1);
-    on_line(p0, p1, d)
-}
-
-// The position at length d beyond the drawn end: on the last segment prolonged, or on the last point where that segment is none or too short.
-fn beyond(chart: &[u8], lay: Layout, r: Runs, d: f64) -> Pos
-    requires { Slides chart.now lay r }
-    ensures { result ≡ prolonged (point_list chart.now lay r) d }
-{
-    let count = r.point_count;
-    let p1 = point(chart, lay, r, count - 1);
-    if count == 1 {
-        return point_pos(p1);
-    }
-    let p0 = point(chart, lay, r, count - 2);
-    if p1.length - p0.length < LEAST_APART {
-        return point_pos(p1);
-    }
-    on_line(p0, p1, d)
-}
-
-// The length of the whole path: the stated one, or the drawn one where 0 is stated.
-fn whole_length(stated: f64, drawn: f64) -> f64
-    ensures { result ≡ whole_length stated drawn }
-{
-    if stated == 0.0 {
-        return drawn;
-    }
-    stated
-}
-
-// The position on the path of a stated length, relative to the head, at a progress from 0 to 1.
-pub fn position_at(chart: &[u8], lay: Layout, r: Runs, stated: f64, progress: f64) -> Pos
-    requires { Slides chart.now lay r }
-    ensures { result ≡ position_at (point_list chart.now lay r) stated progress }
-{
-    let last = point(chart, lay, r, r.point_count - 1);
-    let d = progress * whole_length(stated, last.length);
-    if d <= last.length {
-        return on_path(chart, lay, r, d);
-    }
-    beyond(chart, lay, r, d)
 }
 
 // What the evaluators read of an object beside its nested entries; the position is stacked.
@@ -320,7 +165,7 @@ pub fn end_at(chart: &[u8], lay: Layout, j: usize) -> Pos
 {
     let f = chart_fields::fields_of(chart, lay, j);
     let o = OsuObject::new(f);
-    o.stacked_end_pos(chart, lay, Runs::new(f))
+    o.stacked_end_pos(chart, lay, Runs::from(f))
 }
 
 // The number of repeats of the object at a place, 0 where it is no slider.
@@ -331,7 +176,8 @@ pub fn repeats_at(chart: &[u8], lay: Layout, j: usize) -> u32
     let f = chart_fields::fields_of(chart, lay, j);
     let o = OsuObject::new(f);
     if o.is_slider() {
-        return repeat_count(chart, lay, Runs::new(f));
+        let runs = Runs::from(f);
+        return OsuSlider { chart, lay, runs }.repeat_count();
     }
     0
 }

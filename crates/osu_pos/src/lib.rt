@@ -2,7 +2,9 @@
 #![tactic(auto)]
 
 ghost use Rattle.std.specs.Prelude.{◌≡◌};
-ghost use Rattle.osu_pos.specs.Pos.{◌+ₚ◌, ◌-ₚ◌, ◌*ₚ◌, dot_of, det_of, length_of};
+ghost use Rattle.osu_pos.specs.Pos.{dot_of, det_of, length_of};
+
+use std::ops::{Add, Mul, Sub};
 
 // A position, or the way from one to another.
 #[derive(Clone, Copy)]
@@ -17,36 +19,6 @@ impl Pos {
         ensures { result ≡ record { x = x; y = y } }
     {
         Pos { x, y }
-    }
-
-    // self and p added, coordinate by coordinate.
-    pub fn add(self, p: Pos) -> Pos
-        ensures { result ≡ self +ₚ p }
-    {
-        Pos {
-            x: self.x + p.x,
-            y: self.y + p.y,
-        }
-    }
-
-    // The way from p to self.
-    pub fn sub(self, p: Pos) -> Pos
-        ensures { result ≡ self -ₚ p }
-    {
-        Pos {
-            x: self.x - p.x,
-            y: self.y - p.y,
-        }
-    }
-
-    // Both coordinates times k.
-    pub fn scaled(self, k: f32) -> Pos
-        ensures { result ≡ self *ₚ k }
-    {
-        Pos {
-            x: self.x * k,
-            y: self.y * k,
-        }
     }
 
     // The dot product: the lengths multiplied, by the cosine of the angle between.
@@ -68,5 +40,53 @@ impl Pos {
         ensures { result ≡ length_of self }
     {
         num_roots::root(self.x * self.x + self.y * self.y)
+    }
+}
+
+// self and p added, coordinate by coordinate.
+impl Add for Pos {
+    ghost use Rattle.osu_pos.specs.Pos.{◌+ₚ◌};
+
+    type Output = Pos;
+
+    ghost add_gives = { λ p q r. r ≡ p +ₚ q };
+
+    fn add(self, p: Pos) -> Pos {
+        Pos {
+            x: self.x + p.x,
+            y: self.y + p.y,
+        }
+    }
+}
+
+// The way from p to self.
+impl Sub for Pos {
+    ghost use Rattle.osu_pos.specs.Pos.{◌-ₚ◌};
+
+    type Output = Pos;
+
+    ghost sub_gives = { λ p q r. r ≡ p -ₚ q };
+
+    fn sub(self, p: Pos) -> Pos {
+        Pos {
+            x: self.x - p.x,
+            y: self.y - p.y,
+        }
+    }
+}
+
+// Both coordinates times k.
+impl Mul<f32> for Pos {
+    ghost use Rattle.osu_pos.specs.Pos.{◌*ₚ◌};
+
+    type Output = Pos;
+
+    ghost mul_gives = { λ p k r. r ≡ p *ₚ k };
+
+    fn mul(self, k: f32) -> Pos {
+        Pos {
+            x: self.x * k,
+            y: self.y * k,
+        }
     }
 }

@@ -5,7 +5,7 @@
 ghost use Rattle.std.specs.Prelude.{◌+◌, ◌*◌, ◌<◌, ◌≤◌, length};
 
 use chart_fields::Layout;
-use osu_object::Runs;
+use osu_object::{OsuSlider, Runs};
 use osu_pos::Pos;
 
 // Lookups that are made at most.
@@ -28,13 +28,18 @@ fn position(path: &[u8], count: usize, stated: f64, progress: f64) -> Pos
         nested_at: 80,
         points_at: POINTS_AT,
     };
-    let run = Runs {
+    let runs = Runs {
         nested_first: 0,
         nested_count: 1,
         point_first: 0,
         point_count: count,
     };
-    osu_object::position_at(path, lay, run, stated, progress)
+    let slider = OsuSlider {
+        chart: path,
+        lay,
+        runs,
+    };
+    slider.position_at(stated, progress)
 }
 
 // Writes a position as one line.

@@ -4,4 +4,4 @@ use Rattle.osu_difficulty_object.proofs.jump_dist.Goals as goal
 
 pub returns : goal.returns
 unfolding jump_dist
-returns c = simp (c.widen.ensures, c.length.ensures, c.sub.ensures, c.scaled-from.ensures, c.scaled-to.ensures, c.stacked_pos.ensures)
+returns c = simp (c.widen.ensures, c.length.ensures, c.sub-jump.ensures, c.mul-2.ensures, c.mul.ensures, c.stacked_pos.ensures)

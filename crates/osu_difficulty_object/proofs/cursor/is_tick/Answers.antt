@@ -2,4 +2,4 @@
 use Rattle.osu_difficulty_object.proofs.cursor.is_tick.Goals as goal
 
 pub returns : goal.returns
-returns c = simp c.nested-e.ensures
+returns c = simp c.nested.ensures

@@ -1,5 +1,5 @@
 -- `osu_difficulty_object::cursor::last_tick` meets its contract. Assumes nothing.
-use borrow.Author.Rules.{rules}
+use Prim.Native.Nat.{◌+◌, ◌-◌}
 use native.Mathlib.Omega.{arith}
 use mathlib.Core.Path.{◌≡◌, sym, ◌∙◌}
 use Rattle.osu_object.proofs.Lists.{length_list, last_hit, last_miss, last_none}
@@ -8,13 +8,15 @@ use Rattle.osu_difficulty_object.proofs.cursor.last_tick.Goals as goal
 
 pub loop-k-init : goal.loop-k-init
 unfolding last_tick
-loop-k-init c = (search rules, simp length_list)
+loop-k-init c = simp length_list
 
 pub returns-then-is_tick : goal.returns-then-is_tick
-returns-then-is_tick c = (sym (last_hit _ _ c.loop-k-test.true (sym c.is_tick.ensures ∙ c.if-is_tick.true)) ∙ c.loop-k.invariant.1, search rules)
+returns-then-is_tick c =
+    let z : c.loop-k.k ≡ c.loop-k.k - 1 + 1 = omega arith in
+    (sym c.loop-k.invariant ∙ last_hit _ _ c.loop-k-test.true (sym c.is_tick.ensures ∙ c.if-is_tick.true) ∙ z, omega arith)
 
 pub loop-k-preserved : goal.loop-k-preserved
-loop-k-preserved c = (search rules, last_miss _ _ c.loop-k-test.true (sym c.is_tick.ensures ∙ c.if-is_tick.false) ∙ c.loop-k.invariant.1)
+loop-k-preserved c = last_miss _ _ c.loop-k-test.true (sym c.is_tick.ensures ∙ c.if-is_tick.false) ∙ c.loop-k.invariant
 
 pub returns : goal.returns
-returns c = let z : c.loop-k.k ≡ 0 = omega arith in (z ∙ sym (last_none _) ∙ (rw z at c.loop-k.invariant.1), search rules)
+returns c = let z : c.loop-k.k ≡ 0 = omega arith in sym (rw z at c.loop-k.invariant) ∙ last_none _

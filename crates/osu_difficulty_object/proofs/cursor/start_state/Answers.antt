@@ -4,4 +4,4 @@ use Rattle.osu_difficulty_object.proofs.cursor.start_state.Goals as goal
 
 pub returns : goal.returns
 unfolding start_of
-returns c = simp (c.add-lazy_end.ensures, c.position_at-path.ensures, c.folded.ensures)
+returns c = simp (c.add.ensures, c.position_at.ensures, c.folded.ensures)

@@ -3,8 +3,8 @@ use mathlib.Core.Path.{ap}
 use Rattle.osu_object.specs.Osu.{is_slider, end_pos}
 use Rattle.osu_object.proofs.OsuObject.end_pos.Goals as goal
 
-pub tail-requires : goal.tail-requires
-tail-requires c = c.requires (ap is_slider c.in-Slider.is)
+pub invariant_of-tail : goal.invariant_of-tail
+invariant_of-tail c = record { slides = c.requires (ap is_slider c.in-Slider.is) }
 
 pub returns-in-Circle : goal.returns-in-Circle
 unfolding end_pos

@@ -4,4 +4,4 @@ use Rattle.osu_object.proofs.OsuObject.new.Goals as goal
 
 pub returns : goal.returns
 unfolding osu_object
-returns c = simp c.kind_of-kind.ensures
+returns c = simp c.from.ensures

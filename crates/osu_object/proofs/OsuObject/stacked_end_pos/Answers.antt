@@ -4,4 +4,4 @@ use Rattle.osu_object.proofs.OsuObject.stacked_end_pos.Goals as goal
 
 pub returns : goal.returns
 unfolding stacked_end_pos
-returns c = simp (c.add.ensures, c.end_pos-end.ensures)
+returns c = simp (c.add.ensures, c.end_pos.ensures)

@@ -4,7 +4,7 @@ use Rattle.osu_difficulty_object.proofs.cursor.CursorState.advanced.Goals as goa
 
 pub returns-then-movement_len-required : goal.returns-then-movement_len-required
 unfolding advanced_of
-returns-then-movement_len-required c = simp (c.if-movement_len-required.true, c.add-next.ensures, c.scaled.ensures, c.f64_to_f32.ensures)
+returns-then-movement_len-required c = simp (c.if-movement_len-required.true, c.add.ensures, c.mul.ensures, c.f64_to_f32.ensures)
 
 pub returns : goal.returns
 unfolding advanced_of

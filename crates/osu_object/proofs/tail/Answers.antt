@@ -1,8 +1,0 @@
--- `osu_object::tail` meets its contract. Assumes nothing.
-use Rattle.osu_object.proofs.Lists.{length_list}
-use Rattle.osu_object.specs.Osu.{tail_of}
-use Rattle.osu_object.proofs.tail.Goals as goal
-
-pub returns : goal.returns
-unfolding tail_of
-returns c = simp (c.nested-e.ensures, length_list)
