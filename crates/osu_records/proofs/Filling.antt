@@ -1,5 +1,5 @@
 -- One turn of `fill_range`. Assumes nothing.
-use Prim.Native.Nat.{ℕ, ◌+◌, ◌*◌, ◌-◌, ◌^◌, ◌≤◌, ◌<◌}
+use Prim.Native.Nat.{ℕ, ◌+◌, ◌*◌, ◌-◌, ◌≤◌, ◌<◌}
 use mathlib.Core.Path.{◌≡◌, refl, sym, ap, ◌∙◌}
 use mathlib.Core.List.{List}
 use native.Mathlib.Omega.{arith}
@@ -76,6 +76,3 @@ module _ (s : List ℕ) (lay : Layout) (set : Settings) where
 
 pub room : (j b n a l : ℕ) → j < b → b ≤ n → n ≤ 16384 → 16 * b ≤ a → l ≡ a → (j < 65536) × (16 * j + 16 ≤ l)
 room j b n a l h g k m e = (omega arith, omega arith)
-
-pub next_small : (j b n : ℕ) → j < b → b ≤ n → n ≤ 16384 → j + 1 < 2 ^ 64
-next_small j b n h g l = omega arith

@@ -94,13 +94,11 @@ pub fn fill_range(chart: &[u8], lay: Layout, set: Settings, from: usize, to: usi
     let radius = set.radius;
     let mut last = osu_difficulty_object::placed_at(chart, lay, from - 1, radius);
     let mut last_last = two_before(chart, lay, radius, from, last);
-    let mut j = from;
-    while j < to {
+    for j in from..to {
         let o = osu_difficulty_object::placed_at(chart, lay, j, radius);
         put_record(t, j, OsuDifficultyObject::new(set, j, o, last, last_last));
         last_last = last;
         last = o;
-        j += 1;
     }
 }
 
