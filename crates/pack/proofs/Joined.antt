@@ -15,7 +15,7 @@ use Rattle.calls.specs.Conditions.{Lengths}
 use Rattle.pack_order.specs.Sort.{sort, count, All}
 use Rattle.pack_order.specs.SortLaws.{sort-count, all-sort}
 use Rattle.pack_order.specs.Listing.{most_charts, listed_before, ranked}
-use Rattle.pack_order.proofs.Entries.{all_append}
+use Rattle.num_sort.proofs.Entries.{all_append}
 use Rattle.pack.specs.Pack.{key_of, listed_verdict, rank_verdict}
 use Rattle.pack.proofs.Checks.{passes, stops, accepted, not_many}
 

@@ -20,7 +20,7 @@ use Rattle.calls.specs.Conditions.{Scratch, Lengths, lengths, asked_conditions, 
 use Rattle.calls.specs.Calls.{state, opened, open_answer, open_leaves, cleared}
 use Rattle.calls.proofs.Refusals.{opening_met}
 use Rattle.calls.proofs.Locality.{open_fresh, open_records_length, open_values_length, figure_from_lem}
-use Rattle.pack_order.specs.declared.Ordering.TheVariants.{Less}
+use Rattle.std.specs.declared.cmp.Ordering.TheVariants.{Less}
 use Rattle.pack_order.specs.Compare.{lower, compare_number}
 use Rattle.pack_order.specs.Laws.{chart_compares, chart_exact, chart_ties, chart_total, higher_first, lower_first, ranked_count, ranked_ordered, ranked_only, ranked_joined}
 use Rattle.pack_order.specs.Sort.{All}

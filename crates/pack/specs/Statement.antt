@@ -12,7 +12,7 @@ use Rattle.skills_stars.specs.declared.Asked.{Asked}
 use Rattle.calls.specs.Afresh.{count, totals, ratings, totals_are, ratings_are, figure_from}
 use Rattle.calls.specs.Conditions.{Scratch, Lengths}
 use Rattle.calls.specs.Calls.{state, open_leaves, cleared}
-use Rattle.pack_order.specs.declared.Ordering.TheVariants.{Less, Equal, Greater}
+use Rattle.std.specs.declared.cmp.Ordering.TheVariants.{Less, Equal, Greater}
 use Rattle.pack_order.specs.Compare.{compare_number, compare_chart}
 use Rattle.pack_order.specs.Orders.{Compares}
 use Rattle.pack_order.specs.Sort as Sort

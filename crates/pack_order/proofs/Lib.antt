@@ -1,14 +1,9 @@
-pub mod Nan
 pub mod Turn
-pub mod Entries
 pub mod Fill
 pub mod Up
-pub mod Hole
 pub mod Charts
-pub mod Right
 pub mod Steps
-pub mod Merge
 pub mod Adjacent
 pub mod Joins
 pub mod Lies
-pub mod Halves
+pub mod Words
