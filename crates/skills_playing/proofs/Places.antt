@@ -69,7 +69,7 @@ module _ {k : Skill} {vs : ℕ → List Float} {j : ℕ} {last start delta : Flo
 
 -- ---- before place 1
 abbrev of_sections : Sections → Played
-of_sections w = record { kept = 0; count = 0; sum = zero64; peak = zero64; end = w.end; current = zero64; strain = zero64 }
+of_sections w = record { kept = 0; count = w.count; sum = zero64; peak = w.peak; end = w.end; current = zero64; strain = zero64 }
 
 pub played_opened : (w : Sections) (start : Float) → w ≡ opened start → of_sections w ≡ first_played start
 played_opened w start e = ap of_sections e

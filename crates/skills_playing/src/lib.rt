@@ -36,26 +36,25 @@ pub struct Four {
 }
 
 // A closed section's peak, for the skills whose value asks for the peaks in order.
+#[tactic(auto, unfolding(crate::specs::Kept::kept_with))]
 fn keep_peak(peaks: &mut [f64], n: usize, skill: Skill, x: f64) -> usize
     requires { (n < length peaks.old) × (Sorted (take n peaks.old)) }
     ensures { (result ≤ n + 1) × (take result peaks.new ≡ kept_with skill (take n peaks.old) x) }
 {
     match skill {
-        Skill::Aim => skills_peaks::close_peak(peaks, n, x),
-        Skill::AimNoSliders => skills_peaks::close_peak(peaks, n, x),
-        Skill::Speed => skills_peaks::close_peak(peaks, n, x),
+        Skill::Aim | Skill::AimNoSliders | Skill::Speed => skills_peaks::close_peak(peaks, n, x),
         Skill::Flashlight => n,
     }
 }
 
 // A skill's total, from the closed sections' peaks in order, their sum, and the open section's peak.
+#[tactic(auto, unfolding(crate::specs::Kept::open_total))]
 fn total_open(skill: Skill, s: &[f64], sum: f64, peak: f64) -> f64
     requires { Sorted s.now }
     ensures { result ≡ open_total skill s.now sum peak }
 {
     match skill {
-        Skill::Aim => skills_peaks::aim_value(s, peak),
-        Skill::AimNoSliders => skills_peaks::aim_value(s, peak),
+        Skill::Aim | Skill::AimNoSliders => skills_peaks::aim_value(s, peak),
         Skill::Speed => skills_peaks::speed_value(s, peak),
         Skill::Flashlight => sum + peak,
     }
@@ -66,39 +65,18 @@ fn close_sections(peaks: &mut [f64], from: Played, skill: Skill, last: f64, star
     requires { Fit peaks.old from }
     ensures { Closed skill last start peaks.old from peaks.new result }
 {
-    let mut kept = from.kept;
-    let mut count = from.count;
-    let mut sum = from.sum;
-    let mut peak = from.peak;
-    let mut end = from.end;
-    while count < skills::ROOM {
-        if end < start {
-            kept = keep_peak(peaks, kept, skill, peak);
-            sum = sum + peak;
-            peak = skills::calculate_initial_strain(skill, from.strain, last, end);
-            end = end + skills::SECTION_LENGTH;
-            count += 1;
-        } else {
-            return Played {
-                kept,
-                count,
-                sum,
-                peak,
-                end,
-                current: from.current,
-                strain: from.strain,
-            };
-        }
+    let mut s = from;
+    while s.count < skills::ROOM && s.end < start {
+        s = Played {
+            kept: keep_peak(peaks, s.kept, skill, s.peak),
+            count: s.count + 1,
+            sum: s.sum + s.peak,
+            peak: skills::calculate_initial_strain(skill, from.strain, last, s.end),
+            end: s.end + skills::SECTION_LENGTH,
+            ..s
+        };
     }
-    Played {
-        kept,
-        count,
-        sum,
-        peak,
-        end,
-        current: from.current,
-        strain: from.strain,
-    }
+    s
 }
 
 // One place more: j, which starts at `start`, `delta` after the place before; that one starts at `last`.
@@ -119,13 +97,10 @@ fn place(
     let current = skills::current_strain(values, j, skill, from.current, delta);
     let strain = skills::strain_value_at(values, j, skill, current);
     Played {
-        kept: closed.kept,
-        count: closed.count,
-        sum: closed.sum,
         peak: num_floats::max(closed.peak, strain),
-        end: closed.end,
         current,
         strain,
+        ..closed
     }
 }
 
@@ -133,13 +108,13 @@ fn place(
 fn first_played(start: f64) -> Played
     ensures { result ≡ first_played start }
 {
-    let opened = skills::open_first(start);
+    let skills::Sections { count, peak, end } = skills::open_first(start);
     Played {
         kept: 0,
-        count: 0,
+        count,
         sum: 0.0,
-        peak: 0.0,
-        end: opened.end,
+        peak,
+        end,
         current: 0.0,
         strain: 0.0,
     }
@@ -203,8 +178,7 @@ fn total_of(skill: Skill, s: Played, peaks: &[f64]) -> f64
     requires { Fit peaks.now s }
     ensures { result ≡ open_total skill (take s.kept peaks.now) s.sum s.peak }
 {
-    let kept = s.kept;
-    total_open(skill, &peaks[0..kept], s.sum, s.peak)
+    total_open(skill, &peaks[..s.kept], s.sum, s.peak)
 }
 
 // The four totals after the places so far.
@@ -254,7 +228,6 @@ fn play(
         × (Roomy aim.old) × (Roomy aim_no_sliders.old) × (Roomy speed.old) × (Roomy flashlight.old) }
     ensures { list.new ≡ fill 4 (row_after chart.now lay clock values.now) 2 (lay.n - 1) list.old }
 {
-    let n = lay.n;
     let first = first_played(skills::raw_start(chart, lay, 1) / clock);
     let mut s = Four {
         aim: first,
@@ -264,8 +237,7 @@ fn play(
     };
     let mut raw_last = skills::raw_start(chart, lay, 0);
     let mut last = 0.0;
-    let mut j = 1;
-    while j < n {
+    for j in 1..lay.n {
         let raw = skills::raw_start(chart, lay, j);
         let start = raw / clock;
         let delta = (raw - raw_last) / clock;
@@ -285,7 +257,6 @@ fn play(
         put_row(list, j + 1, totals);
         raw_last = raw;
         last = start;
-        j += 1;
     }
 }
 
@@ -382,14 +353,7 @@ pub fn totals_while_playing(
 fn first_objects(lay: Layout, m: usize) -> Layout
     ensures { result ≡ first_objects lay m }
 {
-    Layout {
-        n: m,
-        nested: lay.nested,
-        points: lay.points,
-        object_size: lay.object_size,
-        nested_at: lay.nested_at,
-        points_at: lay.points_at,
-    }
+    Layout { n: m, ..lay }
 }
 
 // The totals reached after the first m objects, for one m. All scratch is 0 afterwards.
@@ -412,10 +376,9 @@ pub fn totals_to(
     ensures third { speed.new ≡ replicate (length speed.old) zero64 }
     ensures fourth { flashlight.new ≡ replicate (length flashlight.old) zero64 }
 {
-    let shorter = first_objects(lay, m);
     skills::totals(
         chart,
-        shorter,
+        first_objects(lay, m),
         clock,
         values,
         aim,

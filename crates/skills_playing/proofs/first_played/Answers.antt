@@ -3,4 +3,4 @@ use Rattle.skills_playing.proofs.Places.{played_opened}
 use Rattle.skills_playing.proofs.first_played.Goals as goal
 
 pub returns : goal.returns
-returns c = played_opened c.open_first-opened.result c.args.start c.open_first-opened.ensures
+returns c = played_opened c.open_first-count.result c.args.start c.open_first-count.ensures

@@ -36,17 +36,8 @@ totals_of-totals-requires c =
     let p = c.place_all-s.ensures in
     record { first = p.first.fit; second = p.second.fit; third = p.third.fit; fourth = p.fourth.fit }
 
-pub overflow_add-j : goal.overflow_add-j
-overflow_add-j c = omega (arith, c.loop-j-test.true, c.requires.0.holds.few)
-
 pub put_row-requires : goal.put_row-requires
 put_row-requires c = omega (arith, c.loop-j.invariant.0.kept, c.loop-j-test.true, c.requires.2)
-
-pub overflow_add-j-in-loop-j : goal.overflow_add-j-in-loop-j
-overflow_add-j-in-loop-j c = omega (arith, c.loop-j-test.true, c.requires.0.holds.few)
-
-pub loop-j-smaller : goal.loop-j-smaller
-loop-j-smaller c = omega (arith, c.loop-j-test.true)
 
 pub loop-j-preserved : goal.loop-j-preserved
 loop-j-preserved c =

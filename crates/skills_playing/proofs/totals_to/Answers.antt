@@ -9,7 +9,7 @@ pub totals-requires : goal.totals-requires
 totals-requires c =
     let a = c.args in
     let p = c.requires in (
-      subst (λ (l : Layout). Readable a.chart.now l a.values.now) (sym c.first_objects-shorter.ensures) (readable_first a.chart.now a.lay a.m a.values.now p.1 p.0),
+      subst (λ (l : Layout). Readable a.chart.now l a.values.now) (sym c.first_objects.ensures) (readable_first a.chart.now a.lay a.m a.values.now p.1 p.0),
       p.2,
       p.3,
       p.4,
@@ -21,7 +21,7 @@ returns c =
     let a = c.args in
     let t = c.totals.ensures in
     record {
-      result = t.result ∙ ap (λ (l : Layout). totals_of a.chart.now l a.clock a.values.now) c.first_objects-shorter.ensures ∙ totals_first a.chart.now a.lay a.m a.clock a.values.now;
+      result = t.result ∙ ap (λ (l : Layout). totals_of a.chart.now l a.clock a.values.now) c.first_objects.ensures ∙ totals_first a.chart.now a.lay a.m a.clock a.values.now;
       first = t.first;
       second = t.second;
       third = t.third;
