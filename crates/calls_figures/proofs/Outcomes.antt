@@ -36,7 +36,7 @@ use Rattle.calls_players.specs.Second.{seen, verdict_as, outcome_as, scratch_aft
 use Rattle.calls_players.specs.Same.{count_under, figure_under}
 use Rattle.calls_players.specs.Statement.{Reads}
 use Rattle.calls_players.proofs.Own.{outcome_short, scratch_short_lem, as_refused, as_carried, scratch_kept_as, scratch_cleared_as, own_outcome, own_scratch}
-use Rattle.calls_figures.specs.Answers.{Sums, Counted}
+use Rattle.calls_figures.specs.Answers.{Sums, lent_verdict}
 
 -- a condition, and others behind it
 then_refused : {v : Verdict} (vs : List Verdict) (r : Refusal) → v ≡ Err r → first_of (v ∷ vs) ≡ Err r
@@ -69,7 +69,7 @@ module _ (t b : List ℕ) (entries : ℕ) (short : Bool) where
   sums_passed e = second_sum ∙ (then_passed (refuse_if short Table ∷ []) e ∙ last (refuse_if short Table))
 
 -- where they are met by none
-module _ (t b : List ℕ) (v : ℕ) (l : Lengths) (e : second_verdict t b (sum_verdict (under t b) (value_entries v) (scratch_short l)) ≡ Ok tt) where
+module _ (t b : List ℕ) (v : ℕ) (l : Lengths) (e : lent_verdict t b v l ≡ Ok tt) where
   pub sums : Sums b v l
   sums =
       let p = second_accepted t b _ e in
@@ -88,9 +88,6 @@ module _ (t b : List ℕ) (v : ℕ) (l : Lengths) (e : second_verdict t b (sum_v
 
   pub sized : length t ≡ settings_size
   sized = (second_accepted t b _ e).size
-
-pub counted : {b : List ℕ} {v : ℕ} {l : Lengths} → Sums b v l → Counted b
-counted s = record { long = s.long; few = s.holds.few }
 
 -- ---- What comes with a call
 
@@ -121,9 +118,8 @@ long_list e n h = rw (le-ltb e (n + 1) h)
 -- ---- A figure
 
 module _ (f : Figure) (t b : List ℕ) (vs : List Float) (x : Scratch) where
-  -- conditions 1 to 7
   abbrev tried : Verdict
-  tried = second_verdict t b (sum_verdict (under t b) (value_entries (length vs)) (scratch_short (lengths x)))
+  tried = lent_verdict t b (length vs) (lengths x)
 
   then_asked : verdict_as t (figure f (lengths x)) (state b [] vs) ≡ first_of (tried ∷ asked_conditions f (count b))
   unfolding verdict_as verdict_in refusal seen figure_conditions
@@ -186,8 +182,11 @@ module _ (f : Figure) (b : List ℕ) (vs : List Float) (x : Scratch) where
   short_chart h = (outcome_short (figure f (lengths x)) (state b [] vs) h, scratch_short_lem f (state b [] vs) x h)
 
   -- the header's settings
-  pub own_figure : header_size ≤ length b
-      → (outcome_as (part settings_start settings_size b) (figure f (lengths x)) (state b [] vs) ≡ outcome (figure f (lengths x)) (state b [] vs))
-      × (scratch_after_as (part settings_start settings_size b) f (state b [] vs) x ≡ scratch_after f (state b [] vs) x)
+  pub own_figure : (t : List ℕ) → (header_size ≤ length b) × (t ≡ part settings_start settings_size b)
+      → (outcome_as t (figure f (lengths x)) (state b [] vs) ≡ outcome (figure f (lengths x)) (state b [] vs))
+      × (scratch_after_as t f (state b [] vs) x ≡ scratch_after f (state b [] vs) x)
   unfolding Reads
-  own_figure h = (own_outcome (state b [] vs) h (figure f (lengths x)) tt, own_scratch (state b [] vs) h f x)
+  own_figure t (h, e) = (
+    ap (λ (u : List ℕ). outcome_as u (figure f (lengths x)) (state b [] vs)) e ∙ own_outcome (state b [] vs) h (figure f (lengths x)) tt,
+    ap (λ (u : List ℕ). scratch_after_as u f (state b [] vs) x) e ∙ own_scratch (state b [] vs) h f x,
+  )

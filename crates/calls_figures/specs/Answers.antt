@@ -1,15 +1,17 @@
 -- What each figure's answer stands for among the answers of crate calls, and what a chart with its values and scratch has to be. Definitions only.
 use Rattle.std.specs.Prelude.{List, ℕ, ◌*◌, ◌≤◌, Float, length, Result, Ok, Err}
-use Rattle.chart_fields.specs.Limits.{header_size, most_objects}
+use Rattle.chart_fields.specs.Limits.{header_size}
 use Rattle.chart_fields.specs.Objects.{Holds}
 use Rattle.chart_opening.specs.Header.{layout_of}
 use Rattle.chart_opening.specs.declared.Refusal.{Refusal}
+use Rattle.chart_opening.specs.Verdict.{Verdict}
+use Rattle.chart_players.specs.Second.{under, second_verdict}
 use Rattle.skills.specs.declared.Skills.{Skills}
 use Rattle.skills_counts.specs.declared.ObjectCounts.{ObjectCounts}
 use Rattle.skills_stars.specs.declared.Ratings.{Ratings}
-use Rattle.calls.specs.Tables.{value_width, least_scratch}
+use Rattle.calls.specs.Tables.{value_width, least_scratch, value_entries}
 use Rattle.calls.specs.Afresh.{totals_are, counts_are, ratings_are}
-use Rattle.calls.specs.Conditions.{Scratch, Lengths}
+use Rattle.calls.specs.Conditions.{Scratch, Lengths, scratch_short, sum_verdict}
 use Rattle.calls.specs.Calls.{Answer, refused, figure_is}
 
 -- a chart with a value table of v numbers and scratch of these lengths
@@ -22,14 +24,13 @@ pub record Sums (b : List ℕ) (v : ℕ) (l : Lengths) : Type 0 where
   pub speed : least_scratch ≤ l.speed
   pub flashlight : least_scratch ≤ l.flashlight
 
--- a chart whose objects are counted
-pub record Counted (b : List ℕ) : Type 0 where
-  pub long : header_size ≤ length b
-  pub few : (layout_of b).n ≤ most_objects
-
 -- the four slices of scratch
 abbrev pub scratch_of : List Float → List Float → List Float → List Float → Scratch
 scratch_of aim aim_no_sliders speed flashlight = record { aim = aim; aim_no_sliders = aim_no_sliders; speed = speed; flashlight = flashlight }
+
+-- conditions 1 to 7 for the second player, with a value table of v numbers and scratch of these lengths
+abbrev pub lent_verdict : List ℕ → List ℕ → ℕ → Lengths → Verdict
+lent_verdict t b v l = second_verdict t b (sum_verdict (under t b) (value_entries v) (scratch_short l))
 
 abbrev pub totals_answer : Result Skills Refusal → Answer
 totals_answer (Ok t) = figure_is (totals_are t)

@@ -2,57 +2,49 @@
 use Rattle.std.proofs.lemmas.Result.{err_from_is_err_and}
 use mathlib.Core.Path.{refl, sym, ap, ◌∙◌}
 use mathlib.Core.List.{[]}
-use native.Mathlib.Omega.{arith}
 use lib.ListN.{length}
-use Rattle.chart_opening.specs.Header.{layout_of}
 use Rattle.chart_opening.specs.Conditions.{first_of}
-use Rattle.chart_opening.specs.declared.Settings.{Settings}
 use Rattle.skills.specs.Chart as Chart
 use Rattle.skills.specs.declared.Skills.{Skills}
 use Rattle.calls.specs.Afresh.{totals, totals_are, totals_of, figure_of}
 use Rattle.calls.specs.Conditions.{lengths, asked_conditions}
-use Rattle.calls.specs.Calls.{figure_is, outcome_with}
+use Rattle.calls.specs.Calls.{figure_is, outcome_with, cleared}
 use Rattle.calls_figures.specs.Answers.{scratch_of}
-use Rattle.calls_figures.proofs.Outcomes.{sums, sized, refused_by_sums, worked_out}
+use Rattle.calls_figures.proofs.Outcomes.{sums, refused_by_sums, worked_out}
 use Rattle.calls_figures.proofs.totals_as.Goals as goal
 
-pub settings_at-clock-requires : goal.settings_at-clock-requires
-settings_at-clock-requires c =
+pub totals-requires : goal.totals-requires
+totals-requires c =
     let a = c.args in
-    omega (
-      arith,
-      sized a.settings.now a.chart.now (length a.values.now) (lengths (scratch_of a.aim.now a.aim_no_sliders.now a.speed.now a.flashlight.now))
-          (sym c.check_lent.ensures ∙ c.in_ok-check_lent.was),
-    )
+    let x = (scratch_of a.aim.now a.aim_no_sliders.now a.speed.now a.flashlight.now) in
+    let on = c.in_ok-on.ensures in
+    let s = sums a.settings.now a.chart.now (length a.values.now) (lengths x) on.0 in
+    (rw on.1 (record { holds = s.holds; rows = s.rows }), s.aim, s.aim_no_sliders, s.speed, s.flashlight)
 
-pub totals_of-t-requires : goal.totals_of-t-requires
-totals_of-t-requires c =
+pub returns-in_err-on : goal.returns-in_err-on
+returns-in_err-on c =
     let a = c.args in
-    sums a.settings.now a.chart.now (length a.values.now) (lengths (scratch_of a.aim.now a.aim_no_sliders.now a.speed.now a.flashlight.now))
-    (sym c.check_lent.ensures ∙ c.in_ok-check_lent.was)
-
-pub returns-in_err-check_lent : goal.returns-in_err-check_lent
-returns-in_err-check_lent c =
+    let x = (scratch_of a.aim.now a.aim_no_sliders.now a.speed.now a.flashlight.now) in
     let p = err_from_is_err_and c.from_residual.result c.from_residual.ensures.1 in
+    let e = c.in_err-on.ensures in
+    let h = refused_by_sums totals a.settings.now a.chart.now a.values.now x _ e in
     rw (p.1, p.2) (
-      let a = c.args in
-      let h = refused_by_sums totals a.settings.now a.chart.now a.values.now (scratch_of a.aim.now a.aim_no_sliders.now a.speed.now a.flashlight.now) _
-      (sym c.check_lent.ensures ∙ c.in_err-check_lent.was) in
-      record {
-        answer = sym h.0;
-        scratch = sym h.1;
-      }
+    record {
+      answer = sym h.0;
+      scratch = sym h.1;
+    }
     )
 
 pub returns : goal.returns
-unfolding asked_conditions first_of figure_of totals_of
+unfolding asked_conditions first_of figure_of totals_of cleared
 returns c =
     let a = c.args in
-    let h = worked_out totals a.settings.now a.chart.now a.values.now (scratch_of a.aim.now a.aim_no_sliders.now a.speed.now a.flashlight.now)
-    (sym c.check_lent.ensures ∙ c.in_ok-check_lent.was) refl in
-    let t = c.totals_of-t.ensures in
-    let r = t.result ∙ ap (λ (s : Settings). Chart.totals_of a.chart.now (layout_of a.chart.now) s.clock_rate a.values.now) c.settings_at-clock.ensures in
+    let x = (scratch_of a.aim.now a.aim_no_sliders.now a.speed.now a.flashlight.now) in
+    let on = c.in_ok-on.ensures in
+    let h = worked_out totals a.settings.now a.chart.now a.values.now x on.0 refl in
+    let t = c.totals.ensures in
+    let r = t.result ∙ (λ i. Chart.totals_of a.chart.now (on.1 i) (on.2 i) a.values.now) in
     record {
       answer = ap (λ (y : Skills). outcome_with (figure_is (totals_are y)) a.chart.now [] a.values.now) r ∙ sym h.0;
-      scratch = t.scratch ∙ sym h.1;
+      scratch = (λ i. scratch_of (t.first i) (t.second i) (t.third i) (t.fourth i)) ∙ sym h.1;
     }

@@ -1,25 +1,31 @@
 -- `calls_figures::totals_to` meets its contract. Assumes nothing.
+use Rattle.std.proofs.lemmas.Result.{err_from_is_err_and}
 use mathlib.Core.Path.{sym, ◌∙◌}
-use Rattle.num_tables.specs.Parts.{part}
 use Rattle.calls.specs.Afresh.{totals_to}
 use Rattle.calls_figures.specs.Answers.{scratch_of}
 use Rattle.calls_figures.proofs.Outcomes.{short_chart, own_figure}
 use Rattle.calls_figures.proofs.totals_to.Goals as goal
 
-pub returns-then-chart-lt-HEADER_SIZE : goal.returns-then-chart-lt-HEADER_SIZE
-returns-then-chart-lt-HEADER_SIZE c =
+pub returns-in_err-own_settings : goal.returns-in_err-own_settings
+returns-in_err-own_settings c =
     let a = c.args in
-    let h = short_chart (totals_to a.m) a.chart.now a.values.now (scratch_of a.aim.now a.aim_no_sliders.now a.speed.now a.flashlight.now) c.if-chart-lt-HEADER_SIZE.true in
+    let p = err_from_is_err_and c.from_residual.result c.from_residual.ensures.1 in
+    let s = c.own_settings.ensures.short _ c.in_err-own_settings.was in
+    let x = (scratch_of a.aim.now a.aim_no_sliders.now a.speed.now a.flashlight.now) in
+    let h = short_chart (totals_to a.m) a.chart.now a.values.now x s.0 in
+    rw (p.1, p.2, s.1) (
     record {
       answer = sym h.0;
       scratch = sym h.1;
     }
+    )
 
 pub returns : goal.returns
-unfolding part
 returns c =
     let a = c.args in
-    let h = own_figure (totals_to a.m) a.chart.now a.values.now (scratch_of a.aim.now a.aim_no_sliders.now a.speed.now a.flashlight.now) c.if-chart-lt-HEADER_SIZE.false in
+    let x = (scratch_of a.aim.now a.aim_no_sliders.now a.speed.now a.flashlight.now) in
+    let own = c.own_settings.ensures.own _ c.in_ok-own_settings.was in
+    let h = own_figure (totals_to a.m) a.chart.now a.values.now x _ own in
     let t = c.totals_to_as.ensures in
     record {
       answer = t.answer ∙ h.0;

@@ -4,75 +4,64 @@ use mathlib.Core.Path.{sym, ap, ◌∙◌}
 use mathlib.Core.List.{[]}
 use native.Mathlib.Omega.{arith}
 use lib.ListN.{length}
-use Rattle.chart_opening.specs.Header.{layout_of}
-use Rattle.chart_opening.specs.declared.Settings.{Settings}
+use Rattle.chart_fields.specs.declared.Layout.{Layout}
 use Rattle.chart_opening.specs.declared.Refusal.TheVariants.{Place}
 use Rattle.skills.specs.declared.Skills.{Skills}
 use Rattle.skills_playing.specs.Playing.{totals_after}
 use Rattle.calls.specs.Afresh.{totals_to, totals_are, reached_of, figure_of, count}
 use Rattle.calls.specs.Conditions.{lengths}
-use Rattle.calls.specs.Calls.{figure_is, outcome_with}
+use Rattle.calls.specs.Calls.{figure_is, outcome_with, cleared}
 use Rattle.calls_figures.specs.Answers.{scratch_of}
-use Rattle.calls_figures.proofs.Outcomes.{sums, sized, counted, too_many, as_many, refused_by_sums, refused_as_asked, worked_out}
+use Rattle.calls_figures.proofs.Outcomes.{sums, too_many, as_many, refused_by_sums, refused_as_asked, worked_out}
 use Rattle.calls_figures.proofs.totals_to_as.Goals as goal
 
-pub count_of-requires : goal.count_of-requires
-count_of-requires c =
+pub totals_to-requires : goal.totals_to-requires
+totals_to-requires c =
     let a = c.args in
-    counted (sums a.settings.now a.chart.now (length a.values.now) (lengths (scratch_of a.aim.now a.aim_no_sliders.now a.speed.now a.flashlight.now))
-    (sym c.check_lent.ensures ∙ c.in_ok-check_lent.was))
+    let x = (scratch_of a.aim.now a.aim_no_sliders.now a.speed.now a.flashlight.now) in
+    let on = c.in_ok-on.ensures in
+    let s = sums a.settings.now a.chart.now (length a.values.now) (lengths x) on.0 in
+    let n = ap (λ (l : Layout). l.n) on.1 in
+    (rw on.1 (record { holds = s.holds; rows = s.rows }), omega (arith, c.if-on-m.false, n), s.aim, s.aim_no_sliders, s.speed, s.flashlight)
 
-pub returns-then-count_of-m : goal.returns-then-count_of-m
-returns-then-count_of-m c =
+pub returns-then-on-m : goal.returns-then-on-m
+returns-then-on-m c =
     let a = c.args in
-    let h = refused_as_asked (totals_to a.m) a.settings.now a.chart.now a.values.now (scratch_of a.aim.now a.aim_no_sliders.now a.speed.now a.flashlight.now) Place
-    (sym c.check_lent.ensures ∙ c.in_ok-check_lent.was)
-    (too_many a.m (count a.chart.now) (omega (arith, c.if-count_of-m.true, c.count_of.ensures.0))) in
+    let x = (scratch_of a.aim.now a.aim_no_sliders.now a.speed.now a.flashlight.now) in
+    let on = c.in_ok-on.ensures in
+    let n = ap (λ (l : Layout). l.n) on.1 in
+    let s = too_many a.m (count a.chart.now) (omega (arith, c.if-on-m.true, n)) in
+    let h = refused_as_asked (totals_to a.m) a.settings.now a.chart.now a.values.now x Place on.0 s in
     record {
       answer = sym h.0;
       scratch = sym h.1;
     }
 
-pub settings_at-clock-requires : goal.settings_at-clock-requires
-settings_at-clock-requires c =
+pub returns-in_err-on : goal.returns-in_err-on
+returns-in_err-on c =
     let a = c.args in
-    omega (
-      arith,
-      sized a.settings.now a.chart.now (length a.values.now) (lengths (scratch_of a.aim.now a.aim_no_sliders.now a.speed.now a.flashlight.now))
-          (sym c.check_lent.ensures ∙ c.in_ok-check_lent.was),
-    )
-
-pub reached_of-t-requires : goal.reached_of-t-requires
-reached_of-t-requires c =
-    let a = c.args in record {
-      sums = sums a.settings.now a.chart.now (length a.values.now) (lengths (scratch_of a.aim.now a.aim_no_sliders.now a.speed.now a.flashlight.now))
-          (sym c.check_lent.ensures ∙ c.in_ok-check_lent.was);
-      m_bound = omega (arith, c.if-count_of-m.false, c.count_of.ensures.0);
-    }
-
-pub returns-in_err-check_lent : goal.returns-in_err-check_lent
-returns-in_err-check_lent c =
+    let x = (scratch_of a.aim.now a.aim_no_sliders.now a.speed.now a.flashlight.now) in
     let p = err_from_is_err_and c.from_residual.result c.from_residual.ensures.1 in
+    let e = c.in_err-on.ensures in
+    let h = refused_by_sums (totals_to a.m) a.settings.now a.chart.now a.values.now x _ e in
     rw (p.1, p.2) (
-      let a = c.args in
-      let h = refused_by_sums (totals_to a.m) a.settings.now a.chart.now a.values.now (scratch_of a.aim.now a.aim_no_sliders.now a.speed.now a.flashlight.now) _
-      (sym c.check_lent.ensures ∙ c.in_err-check_lent.was) in
-      record {
-        answer = sym h.0;
-        scratch = sym h.1;
-      }
+    record {
+      answer = sym h.0;
+      scratch = sym h.1;
+    }
     )
 
 pub returns : goal.returns
-unfolding figure_of reached_of
+unfolding figure_of reached_of cleared
 returns c =
     let a = c.args in
-    let h = worked_out (totals_to a.m) a.settings.now a.chart.now a.values.now (scratch_of a.aim.now a.aim_no_sliders.now a.speed.now a.flashlight.now)
-    (sym c.check_lent.ensures ∙ c.in_ok-check_lent.was)
-    (as_many a.m (count a.chart.now) (omega (arith, c.if-count_of-m.false, c.count_of.ensures.0))) in
-    let t = c.reached_of-t.ensures in
-    let r = t.result ∙ ap (λ (s : Settings). totals_after a.chart.now (layout_of a.chart.now) s.clock_rate a.values.now a.m) c.settings_at-clock.ensures in
+    let x = (scratch_of a.aim.now a.aim_no_sliders.now a.speed.now a.flashlight.now) in
+    let on = c.in_ok-on.ensures in
+    let n = ap (λ (l : Layout). l.n) on.1 in
+    let h = worked_out (totals_to a.m) a.settings.now a.chart.now a.values.now x on.0 (as_many a.m (count a.chart.now) (omega (arith, c.if-on-m.false, n))) in
+    let t = c.totals_to.ensures in
+    let r = t.result ∙ (λ i. totals_after a.chart.now (on.1 i) (on.2 i) a.values.now a.m) in
     record {
       answer = ap (λ (y : Skills). outcome_with (figure_is (totals_are y)) a.chart.now [] a.values.now) r ∙ sym h.0;
-      scratch = t.scratch ∙ sym h.1;
+      scratch = (λ i. scratch_of (t.first i) (t.second i) (t.third i) (t.fourth i)) ∙ sym h.1;
     }
