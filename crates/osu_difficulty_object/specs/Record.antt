@@ -1,5 +1,6 @@
 -- The object record, from the settings and three objects: `OsuDifficultyObject::new` and `set_distances` of src/osu/difficulty/object.rs.
-use Rattle.std.specs.Prelude.{ℕ, ◌-◌, min, true, false, cond, not, ◌&&◌, ◌||◌, List, ltb, pos, Float}
+use Rattle.std.specs.Prelude.{ℕ, ◌-◌, min, Option, Some, None, cond, not, ◌&&◌, ◌||◌, List, ltb, pos, Float}
+use Rattle.std.specs.Option.{is_some, unwrap_or}
 use Rattle.std.specs.Float.Ieee as Ieee
 use Rattle.std.specs.Float.{binary64}
 use Rattle.num_floats.specs.Numbers.{f32, ◌⊕◌, ◌⊖◌, ◌⊗◌, ◌⊘◌, zero64, one64}
@@ -19,7 +20,6 @@ use Rattle.osu_difficulty_object.specs.Cursor.{slider_cursor}
 use Rattle.osu_difficulty_object.specs.declared.Placed.{Placed}
 use Rattle.osu_difficulty_object.specs.declared.Travel.{Travel}
 use Rattle.osu_difficulty_object.specs.declared.Jump.{Jump}
-use Rattle.osu_difficulty_object.specs.declared.Turn.{Turn}
 use Rattle.osu_difficulty_object.specs.declared.Distances.{Distances}
 use Rattle.osu_difficulty_object.specs.declared.OsuDifficultyObject.{OsuDifficultyObject}
 
@@ -32,7 +32,7 @@ zero_pos = record { x = f32 0; y = f32 0 }
 unfoldable pub plain_of : OsuObject → Placed
 plain_of base = record {
   base = base;
-  cursor = record { has_lazy_end = false; lazy_end = zero_pos; lazy_travel_dist = zero64; lazy_travel_time = zero64 };
+  cursor = record { lazy_end = None; lazy_travel_dist = zero64; lazy_travel_time = zero64 };
   tail = zero_pos;
   repeats = 0;
 }
@@ -71,7 +71,7 @@ travel_of o rate =
 
 -- where the cursor leaves an object: `get_end_cursor_pos`
 unfoldable pub end_cursor : Placed → Pos
-end_cursor o = cond o.cursor.has_lazy_end o.cursor.lazy_end (stacked_pos o.base)
+end_cursor o = unwrap_or o.cursor.lazy_end (stacked_pos o.base)
 
 -- where it comes from: the object at place 0 has no record, so no lazy end
 unfoldable pub last_cursor : ℕ → Placed → Pos
@@ -118,18 +118,18 @@ angle_to base lastPos from before =
     angle_of (dot_of v1 v2) (det_of v1 v2)
 
 -- "exactly when j ≥ 3 and objects j, j-1, j-2 aren't spinners"
-unfoldable pub turn_of : ℕ → Placed → Placed → Placed → Turn
+unfoldable pub turn_of : ℕ → Placed → Placed → Placed → Option Float
 turn_of j o last before =
     cond (ltb 2 j && not (is_spinner o.base.kind) && not (is_spinner last.base.kind) && not (is_spinner before.base.kind))
-    (record { has_angle = true; angle = angle_to o.base (stacked_pos last.base) (last_cursor j last) (end_cursor before) })
-    (record { has_angle = false; angle = zero64 })
+    (Some (angle_to o.base (stacked_pos last.base) (last_cursor j last) (end_cursor before)))
+    None
 
 -- `set_distances`
 abbrev pub distances_of : Settings → ℕ → Float → Placed → Placed → Placed → Distances
 distances_of set j adjusted o last before = record {
   travel = travel_of o set.clock_rate;
   jump = jump_of set j adjusted o last;
-  turn = turn_of j o last before;
+  angle = turn_of j o last before;
 }
 
 -- ---- the record: "Adjusted time is at least 25."
@@ -157,14 +157,14 @@ new_record set j o last before =
       min_jump_time = jump.min_time;
       travel_dist = travel.dist;
       travel_time = travel.time;
-      lazy_end_x = o.cursor.lazy_end.x;
-      lazy_end_y = o.cursor.lazy_end.y;
+      lazy_end_x = (unwrap_or o.cursor.lazy_end zero_pos).x;
+      lazy_end_y = (unwrap_or o.cursor.lazy_end zero_pos).y;
       lazy_travel_dist = o.cursor.lazy_travel_dist;
       lazy_travel_time = o.cursor.lazy_travel_time;
-      angle = turn.angle;
+      angle = unwrap_or turn zero64;
       small_circle_bonus = small_circle_bonus set.radius;
-      has_lazy_end = o.cursor.has_lazy_end;
-      has_angle = turn.has_angle;
+      has_lazy_end = is_some o.cursor.lazy_end;
+      has_angle = is_some turn;
     }
 
 -- from the objects at a place and the two before it; of the place's number k only 1, 2 and 3 or more are told apart

@@ -15,7 +15,7 @@ use osu_pos::Pos;
 
 pub mod cursor;
 
-// What records take from one object. Cursor, tail and repeats are zeros but for a slider.
+// What records take from one object. But for a slider the cursor has no lazy end, and its numbers, tail and repeats are zeros.
 #[derive(Clone, Copy)]
 pub struct Placed {
     pub base: OsuObject,
@@ -39,19 +39,12 @@ pub struct Jump {
     pub min_time: f64,
 }
 
-// The angle, 0 where there is none.
-#[derive(Clone, Copy)]
-pub struct Turn {
-    pub has_angle: bool,
-    pub angle: f64,
-}
-
 // What `set_distances` works out for a record.
 #[derive(Clone, Copy)]
 pub struct Distances {
     pub travel: Travel,
     pub jump: Jump,
-    pub turn: Turn,
+    pub angle: Option<f64>,
 }
 
 // The record of a place, times and distances by clock rate and radius; 0 where there is no value.
@@ -92,18 +85,17 @@ impl OsuDifficultyObject {
     pub fn new(set: Settings, j: usize, o: Placed, last: Placed, last_last: Placed) -> Self
         ensures { result ≡ new_record set j o last last_last }
     {
-        let base = o.base;
-        let last_base = last.base;
         let cursor = o.cursor;
-        let lazy_end = cursor.lazy_end;
-        let delta_time = (base.start_time - last_base.start_time) / set.clock_rate;
+        let lazy_end = cursor.lazy_end.unwrap_or(Pos { x: 0.0, y: 0.0 });
+        let delta_time = (o.base.start_time - last.base.start_time) / set.clock_rate;
         let adjusted = num_floats::max(delta_time, Self::MIN_DELTA_TIME);
-        let distances = set_distances(set, j, adjusted, o, last, last_last);
-        let travel = distances.travel;
-        let jump = distances.jump;
-        let turn = distances.turn;
+        let Distances {
+            travel,
+            jump,
+            angle,
+        } = set_distances(set, j, adjusted, o, last, last_last);
         Self {
-            start_time: base.start_time / set.clock_rate,
+            start_time: o.base.start_time / set.clock_rate,
             delta_time: delta_time,
             adjusted_delta_time: adjusted,
             lazy_jump_dist: jump.lazy_dist,
@@ -115,13 +107,13 @@ impl OsuDifficultyObject {
             lazy_end_y: lazy_end.y,
             lazy_travel_dist: cursor.lazy_travel_dist,
             lazy_travel_time: cursor.lazy_travel_time,
-            angle: turn.angle,
+            angle: angle.unwrap_or(0.0),
             small_circle_bonus: num_floats::max(
                 1.0 + (SMALL_RADIUS - set.radius) / SMALL_RADIUS_SCALE,
                 1.0,
             ),
-            has_lazy_end: cursor.has_lazy_end,
-            has_angle: turn.has_angle,
+            has_lazy_end: cursor.lazy_end.is_some(),
+            has_angle: angle.is_some(),
         }
     }
 
@@ -222,17 +214,15 @@ pub fn opacity_at(
 fn plain(base: OsuObject) -> Placed
     ensures { result ≡ plain_of base }
 {
-    let zero = Pos { x: 0.0, y: 0.0 };
     let cursor = Cursor {
-        has_lazy_end: false,
-        lazy_end: zero,
+        lazy_end: None,
         lazy_travel_dist: 0.0,
         lazy_travel_time: 0.0,
     };
     Placed {
-        base: base,
-        cursor: cursor,
-        tail: zero,
+        base,
+        cursor,
+        tail: Pos { x: 0.0, y: 0.0 },
         repeats: 0,
     }
 }
@@ -251,7 +241,7 @@ pub fn placed_at(chart: &[u8], lay: Layout, i: usize, radius: f64) -> Placed
             let runs = Runs::from(f);
             let slider = OsuSlider { chart, lay, runs };
             Placed {
-                base: base,
+                base,
                 cursor: cursor::compute_slider_cursor_pos(&slider, base, end, spans, radius),
                 tail: slider.tail(),
                 repeats: slider.repeat_count(),
@@ -284,10 +274,7 @@ fn travel_of(o: Placed, clock_rate: f64) -> Travel
 fn get_end_cursor_pos(o: Placed) -> Pos
     ensures { result ≡ end_cursor o }
 {
-    if o.cursor.has_lazy_end {
-        return o.cursor.lazy_end;
-    }
-    o.base.stacked_pos()
+    o.cursor.lazy_end.unwrap_or(o.base.stacked_pos())
 }
 
 // Where the cursor comes from. The object at place 0 has no record, so no lazy end.
@@ -381,27 +368,21 @@ fn angle_to(base: OsuObject, last_pos: Pos, last_cursor: Pos, last_last_cursor: 
 }
 
 // The angle, from place 3 on and where none of the three objects is a spinner.
-fn turn_of(j: usize, o: Placed, last: Placed, last_last: Placed) -> Turn
+fn turn_of(j: usize, o: Placed, last: Placed, last_last: Placed) -> Option<f64>
     ensures { result ≡ turn_of j o last last_last }
 {
     let base = o.base;
     let last_base = last.base;
     let last_last_base = last_last.base;
     if (2 < j) & !base.is_spinner() & !last_base.is_spinner() & !last_last_base.is_spinner() {
-        return Turn {
-            has_angle: true,
-            angle: angle_to(
-                base,
-                last_base.stacked_pos(),
-                last_cursor_pos(j, last),
-                get_end_cursor_pos(last_last),
-            ),
-        };
+        return Some(angle_to(
+            base,
+            last_base.stacked_pos(),
+            last_cursor_pos(j, last),
+            get_end_cursor_pos(last_last),
+        ));
     }
-    Turn {
-        has_angle: false,
-        angle: 0.0,
-    }
+    None
 }
 
 // The Rust's `set_distances`: travel, jump and angle of the record of place j.
@@ -418,6 +399,6 @@ fn set_distances(
     Distances {
         travel: travel_of(o, set.clock_rate),
         jump: jump_of(set, j, adjusted, o, last),
-        turn: turn_of(j, o, last, last_last),
+        angle: turn_of(j, o, last, last_last),
     }
 }

@@ -41,7 +41,7 @@ pub fn record_at(t: &[f64], j: usize) -> OsuDifficultyObject
     }
 }
 
-// A flag as a number.
+// A flag as a number; by hand, since std has no `From<bool>` for f64.
 fn number_of(b: bool) -> f64
     ensures { result ≡ number_of b }
 {
@@ -128,7 +128,7 @@ pub struct Part {
 pub fn first_place(j: usize) -> usize
     ensures { result ≡ first_place j }
 {
-    if j < 33 { 1 } else { j - 32 }
+    j.saturating_sub(32).max(1)
 }
 
 // Its last place, of n: the place after j, if there is one.
@@ -136,7 +136,7 @@ fn last_place(j: usize, n: usize) -> usize
     requires { j < n }
     ensures { result ≡ last_place j n }
 {
-    if j < n - 1 { j + 1 } else { n - 1 }
+    (j + 1).min(n - 1)
 }
 
 // The part that the evaluators at place j of n are lent: from 32 places before to one after.
