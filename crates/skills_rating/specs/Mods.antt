@@ -1,6 +1,7 @@
 -- Order 5: "a word of flags for autopilot, relax, touch device, hidden, flashlight, traceable and fade-only circles, bits 0 to 6 in that order and others unread".
 -- Definitions only.
 use Rattle.std.specs.Prelude.{ℕ, ◌/◌, ◌%◌, Bool, eqb, Float}
+use Rattle.std.specs.Bool.{then_some}
 use Rattle.skills_rating.specs.declared.mods.Mods.{Mods}
 
 -- with attraction strength and start scale, each of which may be absent
@@ -13,8 +14,6 @@ mods_of word attracts strength deflates scale = record {
   flashlight = eqb (word / 16 % 2) 1;
   traceable = eqb (word / 32 % 2) 1;
   fade_only = eqb (word / 64 % 2) 1;
-  has_attraction = attracts;
-  attraction_strength = strength;
-  has_start_scale = deflates;
-  start_scale = scale;
+  attraction = then_some attracts strength;
+  start_scale = then_some deflates scale;
 }

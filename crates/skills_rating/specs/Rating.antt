@@ -1,5 +1,5 @@
 -- osu/difficulty/rating.rs, in its order of operations. Definitions only.
-use Rattle.std.specs.Prelude.{ℕ, ◌-◌, Bool, cond, not, ◌||◌, ltb, pos, Float}
+use Rattle.std.specs.Prelude.{ℕ, ◌-◌, Bool, Option, Some, None, cond, not, ◌||◌, ltb, pos, Float}
 use Rattle.std.specs.Float.Ieee as Ieee
 use Rattle.std.specs.Float.{binary64}
 use Rattle.num_floats.specs.Numbers.{◌⊕◌, ◌⊖◌, ◌⊗◌, ◌⊘◌, zero64, half64, one64, two64, three64}
@@ -47,18 +47,27 @@ touched m rating = cond m.touch_device (power_of rating touch_exponent) rating
 unfoldable pub scaled_if : Bool → Float → Float → Float
 scaled_if on by rating = cond on (rating ⊗ by) rating
 
+-- by a strength, where there is one
+unfoldable pub attracted_by : (Float → Float) → Option Float → Float → Float
+attracted_by share None rating = rating
+attracted_by share (Some strength) rating = rating ⊗ (one64 ⊖ share strength)
+
 unfoldable pub attracted : Mods → Float → Float
-attracted m rating = cond m.has_attraction (rating ⊗ (one64 ⊖ m.attraction_strength)) rating
+attracted m = attracted_by (λ strength. strength) m.attraction
 
 unfoldable pub speed_attracted : Mods → Float → Float
-speed_attracted m rating = cond m.has_attraction (rating ⊗ (one64 ⊖ m.attraction_strength ⊗ speed_attraction)) rating
+speed_attracted m = attracted_by (λ strength. strength ⊗ speed_attraction) m.attraction
 
 unfoldable pub helped : Mods → Float → Float
 helped m rating = cond m.relax (rating ⊗ relax_flashlight) (scaled_if m.autopilot autopilot_flashlight rating)
 
+-- by a start scale, where there is one
+unfoldable pub deflated_by : Option Float → Float → Float
+deflated_by None rating = rating
+deflated_by (Some scale) rating = rating ⊗ clamp_of (reverse_lerp scale full_scale one64) least_share one64
+
 unfoldable pub deflated : Mods → Float → Float
-deflated m rating =
-    cond m.has_start_scale (rating ⊗ clamp_of (reverse_lerp m.start_scale full_scale one64) least_share one64) rating
+deflated m = deflated_by m.start_scale
 
 -- ---- factors
 

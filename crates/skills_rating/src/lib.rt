@@ -53,11 +53,7 @@ fn above(total_hits: u32, most: u32) -> f64
 fn past_short(total_hits: u32) -> u32
     ensures { result ≡ total_hits - 200 }
 {
-    if SHORT < total_hits {
-        total_hits - SHORT
-    } else {
-        0
-    }
+    total_hits.saturating_sub(SHORT)
 }
 
 // How much the approach rate's factor counts for a chart of this length. The logarithm of no objects is NaN, and so is the bonus.
@@ -165,12 +161,12 @@ impl OsuRatingCalculator {
         ensures { result ≡ Rating.new_calculator mods total_hits approach_rate overall_difficulty mechanical_difficulty_rating slider_factor }
     {
         Self {
-            mods: mods,
-            total_hits: total_hits,
-            approach_rate: approach_rate,
-            overall_difficulty: overall_difficulty,
-            mechanical_difficulty_rating: mechanical_difficulty_rating,
-            slider_factor: slider_factor,
+            mods,
+            total_hits,
+            approach_rate,
+            overall_difficulty,
+            mechanical_difficulty_rating,
+            slider_factor,
         }
     }
 

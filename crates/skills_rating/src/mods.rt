@@ -3,7 +3,7 @@ ghost use Rattle.std.specs.Prelude.{◌≡◌};
 ghost use Rattle.skills_rating.specs.Mods.{mods_of};
 ghost use Rattle.skills_rating.specs.Rating as Rating;
 
-// A flag for each of seven mods; attraction strength and start scale, each a flag and a number, which is not read without its flag.
+// A flag for each of seven mods; attraction strength and start scale, each of which may be absent.
 #[derive(Clone, Copy)]
 pub struct Mods {
     pub autopilot: bool,
@@ -13,14 +13,12 @@ pub struct Mods {
     pub flashlight: bool,
     pub traceable: bool,
     pub fade_only: bool,
-    pub has_attraction: bool,
-    pub attraction_strength: f64,
-    pub has_start_scale: bool,
-    pub start_scale: f64,
+    pub attraction: Option<f64>,
+    pub start_scale: Option<f64>,
 }
 
 impl Mods {
-    // The flags from bits 0 to 6 of a word; its other bits are not read.
+    // The flags from bits 0 to 6 of a word; its other bits are not read, nor is a number without its flag.
     pub fn from_word(
         word: u32,
         has_attraction: bool,
@@ -38,10 +36,8 @@ impl Mods {
             flashlight: word / 16 % 2 == 1,
             traceable: word / 32 % 2 == 1,
             fade_only: word / 64 % 2 == 1,
-            has_attraction: has_attraction,
-            attraction_strength: attraction_strength,
-            has_start_scale: has_start_scale,
-            start_scale: start_scale,
+            attraction: has_attraction.then_some(attraction_strength),
+            start_scale: has_start_scale.then_some(start_scale),
         }
     }
 
@@ -59,8 +55,8 @@ impl Mods {
     pub fn attracted(self, rating: f64) -> f64
         ensures { result ≡ Rating.attracted self rating }
     {
-        if self.has_attraction {
-            return rating * (1.0 - self.attraction_strength);
+        if let Some(strength) = self.attraction {
+            return rating * (1.0 - strength);
         }
         rating
     }
@@ -69,8 +65,8 @@ impl Mods {
     pub fn speed_attracted(self, rating: f64) -> f64
         ensures { result ≡ Rating.speed_attracted self rating }
     {
-        if self.has_attraction {
-            return rating * (1.0 - self.attraction_strength * 0.3);
+        if let Some(strength) = self.attraction {
+            return rating * (1.0 - strength * 0.3);
         }
         rating
     }
@@ -89,8 +85,8 @@ impl Mods {
     pub fn deflated(self, rating: f64) -> f64
         ensures { result ≡ Rating.deflated self rating }
     {
-        if self.has_start_scale {
-            let share = num_util::difficulty::reverse_lerp(self.start_scale, 11.0, 1.0);
+        if let Some(scale) = self.start_scale {
+            let share = num_util::difficulty::reverse_lerp(scale, 11.0, 1.0);
             return rating * num_floats::clamp(share, 0.1, 1.0);
         }
         rating

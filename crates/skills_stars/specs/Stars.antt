@@ -1,5 +1,5 @@
 -- What osu/difficulty/mod.rs makes of the totals, in its order of operations. Definitions only.
-use Rattle.std.specs.Prelude.{ℕ, Bool, true, cond, ◌&&◌, Float}
+use Rattle.std.specs.Prelude.{ℕ, Bool, Option, Some, None, true, cond, ◌&&◌, Float}
 use Rattle.std.specs.Float.Ieee as Ieee
 use Rattle.std.specs.Float.Ieee.Scale.{finite}
 use Rattle.num_floats.specs.Numbers.{◌⊕◌, ◌⊖◌, ◌⊗◌, ◌⊘◌, zero64, one64, two64, three64}
@@ -71,12 +71,13 @@ ratings_of totals n asked =
     record { aim = aim; speed = speed; flashlight = flashlight; stars = calculate_star_rating (base_performance aim speed flashlight) asked.base_multiplier }
 
 -- an absent number isn't read
-unfoldable pub finite_if : Bool → Float → Bool
-finite_if given x = cond given (finite x) true
+unfoldable pub finite_if : Option Float → Bool
+finite_if None = true
+finite_if (Some x) = finite x
 
 -- "If any float that comes with the call isn't finite (an absent one isn't read)": this is their being finite
 unfoldable pub finite_asked : Asked → Bool
 finite_asked asked =
     let m = asked.mods in
     finite asked.approach_rate && finite asked.overall_difficulty && finite asked.base_multiplier
-    && finite_if m.has_attraction m.attraction_strength && finite_if m.has_start_scale m.start_scale
+    && finite_if m.attraction && finite_if m.start_scale

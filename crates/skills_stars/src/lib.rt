@@ -22,13 +22,14 @@ pub struct Asked {
 }
 
 // Whether a number that may be absent is finite where it is given.
-fn finite_if(given: bool, x: f64) -> bool
-    ensures { result ≡ Stars.finite_if given x }
+#[tactic(auto, unfolding(crate::specs::Stars::finite_if))]
+fn finite_if(x: Option<f64>) -> bool
+    ensures { result ≡ Stars.finite_if x }
 {
-    if given {
-        return num_floats::is_finite(x);
+    match x {
+        Some(x) => num_floats::is_finite(x),
+        None => true,
     }
-    true
 }
 
 impl Asked {
@@ -40,8 +41,8 @@ impl Asked {
         num_floats::is_finite(self.approach_rate)
             & num_floats::is_finite(self.overall_difficulty)
             & num_floats::is_finite(self.base_multiplier)
-            & finite_if(mods.has_attraction, mods.attraction_strength)
-            & finite_if(mods.has_start_scale, mods.start_scale)
+            & finite_if(mods.attraction)
+            & finite_if(mods.start_scale)
     }
 }
 
@@ -156,9 +157,9 @@ pub fn eval(totals: Skills, n: u32, asked: Asked) -> Ratings
     let performance = base_performance(aim, speed, flashlight);
     let stars = calculate_star_rating(performance, asked.base_multiplier);
     Ratings {
-        aim: aim,
-        speed: speed,
-        flashlight: flashlight,
-        stars: stars,
+        aim,
+        speed,
+        flashlight,
+        stars,
     }
 }

@@ -1,11 +1,11 @@
 -- `skills_rating::mods::Mods::attracted` meets its contract. Assumes nothing.
-use Rattle.skills_rating.specs.Rating.{attracted}
+use Rattle.skills_rating.specs.Rating.{attracted_by, attracted}
 use Rattle.skills_rating.proofs.mods.Mods.attracted.Goals as goal
 
-pub returns-then-self : goal.returns-then-self
-unfolding attracted
-returns-then-self c = simp c.if-self.true
+pub returns-in-Some : goal.returns-in-Some
+unfolding attracted_by attracted
+returns-in-Some c = simp c.in-Some.is
 
 pub returns : goal.returns
-unfolding attracted
-returns c = simp c.if-self.false
+unfolding attracted_by attracted
+returns c = simp c.in_default.is
