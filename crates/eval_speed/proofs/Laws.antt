@@ -8,6 +8,8 @@ use mathlib.Core.List.{List}
 use lib.Dec.{ltb}
 use lib.Ieee.{Float}
 use borrow.Author.Tests.{ltb-true}
+use Rattle.std.specs.Option.{is_some, unwrap_or}
+use Rattle.std.specs.Prelude.{Some, None}
 use Rattle.num_floats.specs.Numbers.{zero64}
 use Rattle.osu_object.specs.Osu.{Object}
 use Rattle.osu_object.specs.Base.{base_of}
@@ -35,10 +37,17 @@ unfolding speed_by
 next_same curr next other travel spinner b window autopilot e = rw (tap_same curr next other spinner b window e)
 
 -- without a next record any may stand for it
-pub no_next : (curr next other : OsuDifficultyObject) (travel : Float) (spinner : Bool) (window : Float) (autopilot : Bool)
+no_next : (curr next other : OsuDifficultyObject) (travel : Float) (spinner : Bool) (window : Float) (autopilot : Bool)
     → speed_by curr travel false next spinner window autopilot ≡ speed_by curr travel false other spinner window autopilot
 unfolding speed_by doubletapness
 no_next curr next other travel spinner window autopilot = refl
+
+-- the next record, where a flag says that there is one
+pub next_where : (b : Bool) (curr next : OsuDifficultyObject) (travel : Float) (spinner : Bool) (window : Float) (autopilot : Bool)
+    → speed_by curr travel (is_some (cond b (Some next) None)) (unwrap_or (cond b (Some next) None) curr) spinner window autopilot
+    ≡ speed_by curr travel b next spinner window autopilot
+next_where true curr next travel spinner window autopilot = refl
+next_where false curr next travel spinner window autopilot = no_next curr curr next travel spinner window autopilot
 
 travel_same : (m n : ℕ) (r q : OsuDifficultyObject) → ltb 0 m ≡ ltb 0 n → (0 < m → r.travel_dist ≡ q.travel_dist) → travel_of m r ≡ travel_of n q
 travel_same m n r q e f = rw (← e) (go (ltb 0 m) refl)

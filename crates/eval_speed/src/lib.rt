@@ -1,7 +1,8 @@
 // The speed evaluator: evaluators/speed.rs.
 #![tactic(auto)]
 
-ghost use Rattle.std.specs.Prelude.{◌≡◌, ◌*◌, ◌-◌, ◌≤◌, ◌<◌, length};
+ghost use Rattle.std.specs.Prelude.{◌≡◌, ◌+◌, ◌*◌, ◌-◌, ◌≤◌, ◌<◌, cond, ltb, length};
+ghost use Rattle.std.specs.Option.{is_some, unwrap_or};
 ghost use Rattle.osu_records.specs.Rows.{record_at};
 ghost use Rattle.chart_fields.specs.Objects.{Holds};
 ghost use Rattle.osu_object.specs.Osu.{object_of};
@@ -61,23 +62,23 @@ fn dist_bonus(dist: f64, small_circle_bonus: f64, autopilot: bool) -> f64
     bonus * num_roots::root(small_circle_bonus)
 }
 
-// The value of a record, with the travel distance of the one before it.
+// The value of a record, with the travel distance of the one before it and the next record where there is one.
 fn evaluate(
     curr: OsuDifficultyObject,
     travel_dist: f64,
-    has_next: bool,
-    next: OsuDifficultyObject,
+    next: Option<OsuDifficultyObject>,
     spinner: bool,
     hit_window: f64,
     autopilot: bool,
 ) -> f64
-    ensures { result ≡ speed_by curr travel_dist has_next next spinner hit_window autopilot }
+    ensures { result ≡ speed_by curr travel_dist (is_some next) (unwrap_or next curr) spinner hit_window autopilot }
 {
     if spinner {
         return 0.0;
     }
     let strain_time = strain_time(curr.adjusted_delta_time, hit_window);
-    let doubletapness = 1.0 - curr.get_doubletapness(spinner, has_next, next, hit_window);
+    let doubletapness = 1.0
+        - curr.get_doubletapness(spinner, next.is_some(), next.unwrap_or(curr), hit_window);
     let speed_bonus = speed_bonus(strain_time);
     let dist = travel_dist + curr.min_jump_dist;
     let dist_bonus = dist_bonus(dist, curr.small_circle_bonus, autopilot);
@@ -97,6 +98,17 @@ fn travel_before(t: &[f64], part: Part, j: usize) -> f64
     0.0
 }
 
+// The record after place j, where the part reaches it.
+fn next_of(t: &[f64], part: Part, j: usize) -> Option<OsuDifficultyObject>
+    requires { Covers t.now part j }
+    ensures { result ≡ cond (ltb j part.last) (Some (part_at t.now part (j + 1))) None }
+{
+    if j < part.last {
+        return Some(osu_records::record_at(t, j + 1 - part.first));
+    }
+    None
+}
+
 // The value at place j, from a part of the record table.
 pub fn evaluate_diff_of(
     t: &[f64],
@@ -111,27 +123,11 @@ pub fn evaluate_diff_of(
     ensures { result ≡ speed_at_place (object_of chart.now lay) (part_at t.now part) part.last j hit_window autopilot }
 {
     let base = OsuObject::new(chart_fields::fields_of(chart, lay, j));
-    let spinner = base.is_spinner();
-    let curr = osu_records::record_at(t, j - part.first);
-    let travel_dist = travel_before(t, part, j);
-    if j < part.last {
-        let next = osu_records::record_at(t, j + 1 - part.first);
-        return evaluate(
-            curr,
-            travel_dist,
-            true,
-            next,
-            spinner,
-            hit_window,
-            autopilot,
-        );
-    }
     evaluate(
-        curr,
-        travel_dist,
-        false,
-        curr,
-        spinner,
+        osu_records::record_at(t, j - part.first),
+        travel_before(t, part, j),
+        next_of(t, part, j),
+        base.is_spinner(),
         hit_window,
         autopilot,
     )
@@ -151,7 +147,6 @@ pub fn evaluate_place(
         ≡ speed_at_place (object_of chart.now lay) (record_at t.now) (last_place j lay.n) j hit_window autopilot }
 {
     let part = osu_records::part_of(j, lay.n);
-    let from = 16 * part.first;
-    let to = 16 * (part.last + 1);
-    evaluate_diff_of(&t[from..to], part, chart, lay, j, hit_window, autopilot)
+    let middle = &t[16 * part.first..16 * (part.last + 1)];
+    evaluate_diff_of(middle, part, chart, lay, j, hit_window, autopilot)
 }

@@ -8,4 +8,4 @@ returns-then-spinner c = simp c.if-spinner.true
 
 pub returns : goal.returns
 unfolding speed_by
-returns c = simp (c.dist_bonus-dist_bonus.ensures, c.speed_bonus-speed_bonus.ensures, c.get_doubletapness-doubletapness.ensures, c.strain_time-strain_time.ensures, c.if-spinner.false)
+returns c = simp (c.dist_bonus-dist_bonus.ensures, c.speed_bonus-speed_bonus.ensures, c.get_doubletapness-doubletapness.ensures, c.is_some.ensures, c.unwrap_or.ensures, c.strain_time-strain_time.ensures, c.if-spinner.false)
