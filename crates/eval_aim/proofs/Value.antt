@@ -6,11 +6,11 @@ use mathlib.Core.Path.{◌≡◌, refl, sym, ap, ◌∙◌}
 use mathlib.Core.Bool.{Bool, true, false, cond, ◌||◌}
 use mathlib.Mathlib.Data.Bool.Basic.{or-eq-false-eq-eq-false-and-eq-false as neither}
 use mathlib.Core.List.{List}
-use lib.Dec.{ltb, leb}
+use lib.Dec.{ltb, leb, eqb}
 use lib.Ieee as Ieee
-use lib.Ieee.{Float, nan}
+use lib.Ieee.{Float, nan, inf, fin}
 use lib.Ieee.Compare.{differs_from_itself}
-use borrow.Author.Tests.{le-ltb, ltb-true, ltb-false}
+use borrow.Author.Tests.{eq-eqb, le-ltb, ltb-true, ltb-false}
 use Rattle.num_floats.specs.Numbers.{zero64}
 use Rattle.num_floats.specs.Compare.{max_of}
 use Rattle.osu_object.specs.Osu.{Object}
@@ -25,7 +25,7 @@ use Rattle.osu_records.proofs.Parts.{ltb_iff, part_in, view_part}
 use Rattle.eval_aim.specs.declared.AimRule.{AimRule}
 use Rattle.eval_aim.specs.declared.AimRule.TheVariants.{TooFew, Spinner, Acute, Wide}
 use Rattle.eval_aim.specs.declared.AimParts.{AimParts}
-use Rattle.eval_aim.specs.Aim.{spacing_of, rule_of, side_of, no_parts, bonuses_of, combine_of, all_parts, parts_of, aim_of, parts_at_place, aim_at_place}
+use Rattle.eval_aim.specs.Aim.{spacing_of, rule_of, side_of, no_parts, bonuses_of, combine_of, all_parts, parts_of, aim_of, parts_at_place}
 
 -- no parts make 0
 combine_none : (r : AimRule) (sliders : Bool) → combine_of (no_parts r) sliders ≡ zero64
@@ -94,11 +94,6 @@ module _ (os : ℕ → Object) (t : List Float) (n j : ℕ) (part : Part) (slide
       parts_same (view_of os (part_at (part_in t part) part) j) (view_of os (record_at t) j) (j - 1) (j - 1) sliders refl
       (λ k b. view_part t j n part one inside f l os 3 k (omega arith) b)
 
-  pub aim_part : aim_at_place os (part_at (part_in t part) part) j sliders ≡ aim_at_place os (record_at t) j sliders
-  aim_part =
-      aim_same (view_of os (part_at (part_in t part) part) j) (view_of os (record_at t) j) (j - 1) (j - 1) sliders refl
-      (λ k b. view_part t j n part one inside f l os 3 k (omega arith) b)
-
 -- ---- the rule names the side of the last max
 
 pub rule_max : (acute wide : Float) → max_of acute wide ≡ side_of (rule_of acute wide) acute wide
@@ -127,10 +122,24 @@ module _ (os : ℕ → Object) (rs : ℕ → OsuDifficultyObject) (j : ℕ) (sli
   unfolding parts_of
   parts_spinner e = rw (le-ltb (j - 1) 2 many, spinner_is true e)
 
-  pub parts_all : (far : Sight) (d : Float) → (curr.base.spinner || last.base.spinner) ≡ false
+  pub parts_all : (far : Sight) (h : Bool) (d : Float) → (curr.base.spinner || last.base.spinner) ≡ false
       → far ≡ sight_of (rs (j - 2)) (os (j - 2))
+      → h ≡ leb 3 (j - 1)
       → d ≡ spacing_of (leb 3 (j - 1)) (base_of (os (j - 3))).pos last.base.pos
-      → bonuses_of curr last far (leb 3 (j - 1)) d sliders ≡ parts_at_place os rs j sliders
+      → bonuses_of curr last far h d sliders ≡ parts_at_place os rs j sliders
   unfolding parts_of all_parts
-  parts_all far d e hf hd =
-      rw (le-ltb (j - 1) 2 many, spinner_is false e, hd, hf, hc, hl, sub-zero j)
+  parts_all far h d e hf hh hd =
+      rw (le-ltb (j - 1) 2 many, spinner_is false e, hd, hh, hf, hc, hl, sub-zero j)
+
+-- ---- a NaN is no number's equal
+
+eqb_same : (n : ℕ) → eqb n n ≡ true
+eqb_same n = eq-eqb n n refl
+
+pub ne_is_nan : (x : Float) → Ieee.ne x x ≡ Ieee.is_nan x
+unfolding Ieee.ne Ieee.eq Ieee.is_nan
+ne_is_nan nan = refl
+ne_is_nan (inf true) = refl
+ne_is_nan (inf false) = refl
+ne_is_nan (fin true m e) = simp eqb_same
+ne_is_nan (fin false m e) = simp eqb_same

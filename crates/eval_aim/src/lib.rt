@@ -2,11 +2,13 @@
 #![tactic(auto)]
 
 ghost use Rattle.std.specs.Prelude.{◌≡◌, true, false, ◌+◌, ◌*◌, ◌-◌, ◌≤◌, ◌<◌, leb, length};
+ghost use Rattle.std.specs.Option.{is_some, unwrap_or};
 ghost use Rattle.chart_fields.specs.Objects.{Holds};
 ghost use Rattle.osu_object.specs.Osu.{object_of};
 ghost use Rattle.osu_object.specs.Base.{base_of};
 ghost use Rattle.osu_records.specs.Rows.{record_at};
 ghost use Rattle.osu_records.specs.Part.{Covers, part_at};
+ghost use Rattle.eval_aim.specs.Constants.{zero32};
 ghost use Rattle.eval_aim.specs.Aim.{velocity_of, wide_angle, acute_angle, acute_repeated, acute_of, wide_of, wiggle_of, spacing_of, close_of, angles_of};
 ghost use Rattle.eval_aim.specs.Aim.{change_of, vel_change, slider_bonus, rule_of, no_parts, bonuses_of, combine_of, parts_at_place, aim_at_place};
 
@@ -43,7 +45,7 @@ pub enum AimRule {
 }
 
 // What the branch on the angles assigns.
-#[derive(Clone, Copy)]
+#[derive(Clone, Copy, Default)]
 pub struct AngleBonus {
     pub wide: f64,
     pub acute: f64,
@@ -169,15 +171,13 @@ fn wiggle(curr: OsuDifficultyObject, last: OsuDifficultyObject, angle_bonus: f64
 }
 
 // The bonus of a wide angle, less where its ends lie within 1 of each other.
-fn close(wide: f64, has_last_2: bool, distance: f32) -> f64
-    ensures { result ≡ close_of wide has_last_2 distance }
+fn close(wide: f64, distance: Option<f32>) -> f64
+    ensures { result ≡ close_of wide (is_some distance) (unwrap_or distance zero32) }
 {
-    if has_last_2 {
-        if distance < 1.0 {
-            return wide * (1.0 - 0.35 * num_floats::widen(1.0 - distance));
-        }
+    match distance {
+        Some(d) if d < 1.0 => wide * (1.0 - 0.35 * num_floats::widen(1.0 - d)),
+        _ => wide,
     }
-    wide
 }
 
 // The bonuses of wide, acute and wiggling angles; none where an angle is missing.
@@ -185,23 +185,18 @@ fn angle_bonuses(
     curr: OsuDifficultyObject,
     last: OsuDifficultyObject,
     angle_bonus: f64,
-    has_last_2: bool,
-    distance: f32,
+    distance: Option<f32>,
 ) -> AngleBonus
-    ensures { result ≡ angles_of curr last angle_bonus has_last_2 distance }
+    ensures { result ≡ angles_of curr last angle_bonus (is_some distance) (unwrap_or distance zero32) }
 {
     if curr.has_angle & last.has_angle {
         return AngleBonus {
-            wide: close(wide(curr, last, angle_bonus), has_last_2, distance),
+            wide: close(wide(curr, last, angle_bonus), distance),
             acute: acute(curr, last, angle_bonus),
             wiggle: wiggle(curr, last, angle_bonus),
         };
     }
-    AngleBonus {
-        wide: 0.0,
-        acute: 0.0,
-        wiggle: 0.0,
-    }
+    AngleBonus::default()
 }
 
 // The bonus of a change between two velocities over the whole objects, by the two adjusted times.
@@ -256,13 +251,14 @@ fn slider_bonus(last: OsuDifficultyObject, slider: bool) -> f64
 fn rule(acute: f64, wide: f64) -> AimRule
     ensures { result ≡ rule_of acute wide }
 {
-    if acute != acute {
-        if wide != wide {
+    if acute.is_nan() {
+        return if wide.is_nan() {
             AimRule::Acute
         } else {
             AimRule::Wide
-        }
-    } else if acute < wide {
+        };
+    }
+    if acute < wide {
         AimRule::Wide
     } else {
         AimRule::Acute
@@ -313,11 +309,10 @@ fn bonuses(
     curr: Sight,
     last: Sight,
     last_last: Sight,
-    has_last_2: bool,
-    distance: f32,
+    distance: Option<f32>,
     with_slider_travel_dist: bool,
 ) -> AimParts
-    ensures { result ≡ bonuses_of curr last last_last has_last_2 distance with_slider_travel_dist }
+    ensures { result ≡ bonuses_of curr last last_last (is_some distance) (unwrap_or distance zero32) with_slider_travel_dist }
 {
     let c = curr.diff;
     let l = last.diff;
@@ -326,13 +321,7 @@ fn bonuses(
     let ll_slider = last_last.base.slider;
     let curr_vel = velocity(c, l, l_slider & with_slider_travel_dist);
     let prev_vel = velocity(l, ll, ll_slider & with_slider_travel_dist);
-    let angles = angle_bonuses(
-        c,
-        l,
-        num_floats::min(curr_vel, prev_vel),
-        has_last_2,
-        distance,
-    );
+    let angles = angle_bonuses(c, l, num_floats::min(curr_vel, prev_vel), distance);
     AimParts {
         rule: rule(
             angles.acute * ACUTE_ANGLE_MULTIPLIER,
@@ -349,16 +338,17 @@ fn bonuses(
     }
 }
 
-// The distance of the object at j - 3 from the last, which stands at `last`; 0 where it has no record.
-fn spacing(chart: &[u8], lay: Layout, before: usize, j: usize, last: Pos) -> f32
+// The distance of the object at j - 3 from the last, which stands at `last`, where it has a record.
+fn spacing(chart: &[u8], lay: Layout, before: usize, j: usize, last: Pos) -> Option<f32>
     requires { (before < j) × Holds chart.now lay × (j < lay.n) }
-    ensures { result ≡ spacing_of (leb 3 before) (base_of (object_of chart.now lay (j - 3))).pos last }
+    ensures has { is_some result ≡ leb 3 before }
+    ensures distance { unwrap_or result zero32 ≡ spacing_of (leb 3 before) (base_of (object_of chart.now lay (j - 3))).pos last }
 {
-    if 3 <= before {
-        let far = osu_object::base_at(chart, lay, j - 3);
-        return (far.pos - last).length();
+    if before < 3 {
+        return None;
     }
-    0.0
+    let far = osu_object::base_at(chart, lay, j - 3);
+    Some((far.pos - last).length())
 }
 
 // The value in parts at place j, from a part of the record table.
@@ -384,14 +374,7 @@ pub fn parts_of(
     }
     let last_last = osu_records::sight_at(t, part, chart, lay, j - 2);
     let distance = spacing(chart, lay, before, j, last.base.pos);
-    bonuses(
-        curr,
-        last,
-        last_last,
-        3 <= before,
-        distance,
-        with_slider_travel_dist,
-    )
+    bonuses(curr, last, last_last, distance, with_slider_travel_dist)
 }
 
 // The value at place j, from a part of the record table.
@@ -406,8 +389,7 @@ pub fn evaluate_diff_of(
     requires { Holds chart.now lay × (j < lay.n) × Covers t.now part j }
     ensures { result ≡ aim_at_place (object_of chart.now lay) (part_at t.now part) j with_slider_travel_dist }
 {
-    let parts = parts_of(t, part, chart, lay, j, with_slider_travel_dist);
-    parts.combine(with_slider_travel_dist)
+    parts_of(t, part, chart, lay, j, with_slider_travel_dist).combine(with_slider_travel_dist)
 }
 
 // The value in parts at place j of a whole table: the evaluator is lent the middle of it.
@@ -422,9 +404,8 @@ pub fn parts_place(
     ensures { result ≡ parts_at_place (object_of chart.now lay) (record_at t.now) j with_slider_travel_dist }
 {
     let part = osu_records::part_of(j, lay.n);
-    let from = 16 * part.first;
-    let to = 16 * (part.last + 1);
-    parts_of(&t[from..to], part, chart, lay, j, with_slider_travel_dist)
+    let middle = &t[16 * part.first..16 * (part.last + 1)];
+    parts_of(middle, part, chart, lay, j, with_slider_travel_dist)
 }
 
 // The parts without sliders at place j of a whole table, of those with sliders: where none of the last two objects is a slider they are the same.
@@ -458,7 +439,7 @@ pub fn evaluate_both(t: &[f64], chart: &[u8], lay: Layout, j: usize) -> AimValue
     }
 }
 
-// The value at place j of a whole table: the evaluator is lent the middle of it.
+// The value at place j of a whole table.
 pub fn evaluate_place(
     t: &[f64],
     chart: &[u8],
@@ -469,8 +450,5 @@ pub fn evaluate_place(
     requires { Holds chart.now lay × (1 ≤ j) × (j < lay.n) × (16 * lay.n ≤ length t.now) }
     ensures { result ≡ aim_at_place (object_of chart.now lay) (record_at t.now) j with_slider_travel_dist }
 {
-    let part = osu_records::part_of(j, lay.n);
-    let from = 16 * part.first;
-    let to = 16 * (part.last + 1);
-    evaluate_diff_of(&t[from..to], part, chart, lay, j, with_slider_travel_dist)
+    parts_place(t, chart, lay, j, with_slider_travel_dist).combine(with_slider_travel_dist)
 }

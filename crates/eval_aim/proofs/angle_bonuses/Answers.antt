@@ -8,4 +8,4 @@ returns-then-curr-last c = simp (c.wiggle.ensures, c.acute.ensures, c.close.ensu
 
 pub returns : goal.returns
 unfolding angles_of
-returns c = simp c.if-curr-last.false
+returns c = let e = c.default.ensures in simp c.if-curr-last.false (λ i. record { wide = e.0 i; acute = e.1.0 i; wiggle = e.1.1 i })

@@ -1,16 +1,15 @@
 -- `eval_aim::close` meets its contract. Assumes nothing.
 use Rattle.eval_aim.specs.Aim.{close_of}
-use borrow.Author.Rules.{rules}
 use Rattle.eval_aim.proofs.close.Goals as goal
 
-pub returns-then-distance : goal.returns-then-distance
+pub returns-in-Some : goal.returns-in-Some
 unfolding close_of
-returns-then-distance c = simp (c.widen.ensures, c.if-distance.true, c.if-has_last_2.true)
+returns-in-Some c = simp (c.in-Some.is, c.widen.ensures, c.if-d.true)
 
-pub returns-else-distance : goal.returns-else-distance
+pub returns-in_default : goal.returns-in_default
 unfolding close_of
-returns-else-distance c = simp (c.if-distance.false, c.if-has_last_2.true)
+returns-in_default c = simp (c.in-Some.is, c.if-d.false)
 
-pub returns-else-has_last_2 : goal.returns-else-has_last_2
+pub returns-in_default-2 : goal.returns-in_default-2
 unfolding close_of
-returns-else-has_last_2 c = search rules
+returns-in_default-2 c = simp c.in_default.is

@@ -8,4 +8,4 @@ use mathlib.Core.Path.{◌∙◌}
 use Rattle.eval_aim.proofs.evaluate_diff_of.Goals as goal
 
 pub returns : goal.returns
-returns c = c.combine.ensures ∙ rw c.parts_of-parts.ensures (aim_combine (view_of (object_of c.args.chart.now c.args.lay) (part_at c.args.t.now c.args.part) c.args.j) (c.args.j - 1) _)
+returns c = c.combine.ensures ∙ rw c.parts_of.ensures (aim_combine (view_of (object_of c.args.chart.now c.args.lay) (part_at c.args.t.now c.args.part) c.args.j) (c.args.j - 1) _)

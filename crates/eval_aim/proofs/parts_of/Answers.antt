@@ -17,5 +17,5 @@ returns-then-curr-last c = c.none-then-curr-last.ensures
 
 pub returns : goal.returns
 returns c = c.bonuses.ensures
-    ∙ parts_all (object_of c.args.chart.now c.args.lay) (part_at c.args.t.now c.args.part) c.args.j _ _ _ c.if-before-lt2.false c.sight_at-curr.ensures c.sight_at-last.ensures _ _
-    c.if-curr-last.false c.sight_at-last_last.ensures c.spacing-distance.ensures
+    ∙ parts_all (object_of c.args.chart.now c.args.lay) (part_at c.args.t.now c.args.part) c.args.j _ _ _ c.if-before-lt2.false c.sight_at-curr.ensures c.sight_at-last.ensures _ _ _
+    c.if-curr-last.false c.sight_at-last_last.ensures c.spacing-distance.ensures.has c.spacing-distance.ensures.distance
