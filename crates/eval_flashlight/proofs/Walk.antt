@@ -3,8 +3,8 @@ use Prim.Native.Nat.{ℕ, zero, suc, ◌+◌, ◌-◌, ◌^◌, ◌≤◌, ◌<�
 use native.Mathlib.Omega.{arith}
 use native.Mathlib.Nat.{sub-zero}
 use native.Mathlib.Numerals.{add-one}
-use mathlib.Core.Path.{◌≡◌, refl, ap, ◌∙◌}
-use mathlib.Core.Bool.{Bool, true, false}
+use mathlib.Core.Path.{◌≡◌, refl}
+use mathlib.Core.Bool.{Bool, true, false, cond, ◌&&◌}
 use mathlib.Core.List.{List}
 use lib.Dec.{T, le→leb}
 use lib.IntN.{pos}
@@ -92,6 +92,8 @@ pub turns_none : (e : FlashlightEvaluator) (v : View) (ends : ℕ → Pos) (hidd
 unfolding turns_of
 turns_none e v ends hidden = refl
 
-pub turns_end : (e : FlashlightEvaluator) (v : View) (ends : ℕ → Pos) (hidden : Bool) (k n : ℕ) (s : FlashlightState) → k ≤ n → n ≤ k
-    → s ≡ turns_of e v ends hidden k → s ≡ turns_of e v ends hidden n
-turns_end e v ends hidden k n s a b h = let q : k ≡ n = omega arith in h ∙ ap (turns_of e v ends hidden) q
+-- ---- a repeated angle
+
+pub both : (b c : Bool) (x y : Float) → cond b (cond c x y) y ≡ cond (b && c) x y
+both true c x y = refl
+both false c x y = refl

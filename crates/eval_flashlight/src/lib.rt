@@ -1,7 +1,7 @@
 // How hard an object is to remember and see within the flashlight: evaluators/flashlight.rs.
 #![tactic(auto)]
 
-ghost use Rattle.std.specs.Prelude.{◌≡◌, ◌+◌, ◌*◌, ◌-◌, ◌≤◌, ◌<◌, min, length};
+ghost use Rattle.std.specs.Prelude.{◌≡◌, ◌+◌, ◌*◌, ◌-◌, ◌≤◌, ◌<◌, length};
 ghost use Rattle.osu_object.specs.Osu.{Ready, object_of};
 ghost use Rattle.osu_records.specs.Rows.{record_at};
 ghost use Rattle.osu_records.specs.Part.{Covers, part_at};
@@ -60,10 +60,8 @@ fn repeated(count: f64, obj: OsuDifficultyObject, curr: OsuDifficultyObject, i: 
     requires { i ≤ history }
     ensures { result ≡ repeated_of count obj curr i }
 {
-    if obj.has_angle & curr.has_angle {
-        if num_floats::abs(obj.angle - curr.angle) < 0.02 {
-            return count + num_floats::max(1.0 - 0.1 * i as f64, 0.0);
-        }
+    if obj.has_angle & curr.has_angle & (num_floats::abs(obj.angle - curr.angle) < 0.02) {
+        return count + num_floats::max(1.0 - 0.1 * i as f64, 0.0);
     }
     count
 }
@@ -87,13 +85,6 @@ fn shared(bonus: f64, repeat_count: u32) -> f64
         return bonus / (repeat_count + 1) as f64;
     }
     bonus
-}
-
-// How many records the walk goes back over.
-fn turns(i: usize) -> usize
-    ensures { result ≡ min i history }
-{
-    if i < HISTORY { i } else { HISTORY }
 }
 
 impl FlashlightState {
@@ -174,10 +165,8 @@ impl FlashlightEvaluator {
         let obj_base = obj.base;
         if obj_base.spinner {
             return FlashlightState {
-                small_dist_nerf: s.small_dist_nerf,
                 cumulative_strain_time: time,
-                result: s.result,
-                angle_repeat_count: s.angle_repeat_count,
+                ..s
             };
         }
         let jump_dist = num_floats::widen((base.pos - end).length());
@@ -208,14 +197,12 @@ impl FlashlightEvaluator {
         let curr = osu_records::sight_at(t, part, chart, lay, j);
         let mut last = curr.diff;
         let mut s = FlashlightState::new();
-        let mut k: usize = 0;
-        while k < n {
+        for k in 0..n {
             let p = j - (k + 1);
             let obj = osu_records::sight_at(t, part, chart, lay, p);
             let end = osu_object::end_at(chart, lay, p);
             s = self.step(s, curr, last, obj, end, k, hidden);
             last = obj.diff;
-            k += 1;
         }
         s
     }
@@ -278,7 +265,7 @@ impl FlashlightEvaluator {
         if base.spinner {
             return 0.0;
         }
-        let s = self.walk(t, part, chart, lay, j, turns(j - 1), hidden);
+        let s = self.walk(t, part, chart, lay, j, (j - 1).min(HISTORY), hidden);
         let repeat_count = osu_object::repeats_at(chart, lay, j);
         self.value(s, curr.diff, base.slider, repeat_count, hidden)
     }
@@ -289,8 +276,7 @@ impl FlashlightEvaluator {
         ensures { result ≡ flashlight_at_place self (object_of chart.now lay) (record_at t.now) j hidden }
     {
         let part = osu_records::part_of(j, lay.n);
-        let from = 16 * part.first;
-        let to = 16 * (part.last + 1);
-        self.evaluate_diff_of(&t[from..to], part, chart, lay, j, hidden)
+        let middle = &t[16 * part.first..16 * (part.last + 1)];
+        self.evaluate_diff_of(middle, part, chart, lay, j, hidden)
     }
 }

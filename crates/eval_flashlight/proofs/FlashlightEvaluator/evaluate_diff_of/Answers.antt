@@ -15,4 +15,4 @@ value-requires c = rw c.repeats_at-repeat_count.ensures (repeats_few _ _ _ c.req
 pub returns : goal.returns
 returns c = c.value.ensures
     ∙ value_all c.args.self (object_of c.args.chart.now c.args.lay) (part_at c.args.t.now c.args.part) c.args.j c.args.hidden _ c.sight_at-curr.ensures _ _ _
-    c.repeats_at-repeat_count.ensures c.if-base.false c.turns.ensures c.walk-s.ensures
+    c.repeats_at-repeat_count.ensures c.if-base.false c.min.ensures c.walk-s.ensures
