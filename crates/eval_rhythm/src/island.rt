@@ -1,19 +1,12 @@
 // The islands of evaluators/rhythm.rs, `RhythmIsland`, and how often each was met, `IslandCount`.
-ghost use Rattle.std.specs.Prelude.{◌≡◌, true, ◌≤◌, ◌<◌, List, get_or};
+ghost use Rattle.std.specs.Prelude.{◌≡◌, ℕ, true, ◌≤◌, ◌<◌, ltb, length, get_or, IfSome, position};
+ghost use Rattle.std.specs.Option.{is_some, unwrap_or};
 ghost use Rattle.std.specs.Int.Signed.{non_neg};
-ghost use Rattle.eval_rhythm.specs.Island.{max_z, dist_z, new_island, new_with_delta, settled_of, add_delta, similar_of, default_of, same_of, IslandOk};
-ghost use Rattle.eval_rhythm.specs.Counts.{no_count, unmet_of, EndsAt, place_of, bumped_of, entry_of, CountOk};
+ghost use Rattle.eval_rhythm.specs.Island.{new_island, new_with_delta, settled_of, add_delta, similar_of, default_of, same_of, IslandOk};
+ghost use Rattle.eval_rhythm.specs.Counts.{no_count, unmet_of, place_of, bumped_of, entry_of, CountOk};
 ghost use Rattle.eval_rhythm.specs.Comparisons.{compared_of};
-ghost use Rattle.eval_rhythm.specs.declared.island.RhythmIsland.{RhythmIsland};
-ghost use Rattle.eval_rhythm.specs.declared.island.IslandCount.{IslandCount};
 
 const MIN_DELTA_TIME: i32 = 25;
-
-// i32::MAX.
-const LARGEST: i32 = 2147483647;
-
-// f64::EPSILON.
-const EPSILON: f64 = 0.0000000000000002220446049250313;
 
 #[derive(Clone, Copy)]
 pub struct RhythmIsland {
@@ -28,34 +21,12 @@ pub struct IslandCount {
     pub count: u32,
 }
 
-// What a search gives: the place of the island, and how many entries it was compared with.
-#[derive(Clone, Copy)]
-pub struct Search {
-    pub place: usize,
-    pub compared: usize,
-}
-
-// The larger of two numbers.
-pub fn max_i32(a: i32, b: i32) -> i32
-    ensures { result ≡ max_z a b }
-{
-    if a < b { b } else { a }
-}
-
-// The distance of two numbers that are not below zero.
-pub fn dist_i32(a: i32, b: i32) -> i32
-    requires { (non_neg a ≡ true) × (non_neg b ≡ true) }
-    ensures { result ≡ dist_z a b }
-{
-    if a < b { b - a } else { a - b }
-}
-
 // The delta that `add_delta` leaves.
 pub fn settled(kept: i32, delta: i32) -> i32
     ensures { result ≡ settled_of kept delta }
 {
-    if kept == LARGEST {
-        max_i32(delta, MIN_DELTA_TIME)
+    if kept == i32::MAX {
+        delta.max(MIN_DELTA_TIME)
     } else {
         kept
     }
@@ -79,7 +50,7 @@ impl RhythmIsland {
     {
         Self {
             delta_difference_eps: eps,
-            delta: max_i32(delta, MIN_DELTA_TIME),
+            delta: delta.max(MIN_DELTA_TIME),
             delta_count: 1,
         }
     }
@@ -89,12 +60,10 @@ impl RhythmIsland {
         requires { IslandOk 31 self }
         ensures { result ≡ add_delta self delta }
     {
-        let kept = self.delta;
-        let count = self.delta_count;
         Self {
-            delta_difference_eps: self.delta_difference_eps,
-            delta: settled(kept, delta),
-            delta_count: count + 1,
+            delta: settled(self.delta, delta),
+            delta_count: self.delta_count + 1,
+            ..self
         }
     }
 
@@ -103,9 +72,7 @@ impl RhythmIsland {
         requires { (non_neg self.delta_count ≡ true) × (non_neg other.delta_count ≡ true) }
         ensures { result ≡ similar_of self other }
     {
-        let a = self.delta_count;
-        let b = other.delta_count;
-        a % 2 == b % 2
+        self.delta_count % 2 == other.delta_count % 2
     }
 
     // It never holds, since `new` sets a delta of 0.
@@ -113,28 +80,17 @@ impl RhythmIsland {
     pub fn is_default(self) -> bool
         ensures { result ≡ default_of self }
     {
-        let delta = self.delta;
-        let count = self.delta_count;
-        if num_floats::abs(self.delta_difference_eps) < EPSILON {
-            if delta == LARGEST { count == 0 } else { false }
-        } else {
-            false
-        }
+        num_floats::abs(self.delta_difference_eps) < f64::EPSILON
+            && self.delta == i32::MAX
+            && self.delta_count == 0
     }
 
-    // `PartialEq`: by the tolerance of the left one.
+    // The Rust's `==`, by the tolerance of the left one. No `PartialEq`, which may not change to one: `same_of` is no equivalence.
     pub fn same(self, other: RhythmIsland) -> bool
-        requires { (non_neg self.delta ≡ true) × (non_neg other.delta ≡ true) }
         ensures { result ≡ same_of self other }
     {
-        let a = self.delta_count;
-        let b = other.delta_count;
-        let d = dist_i32(self.delta, other.delta);
-        if (d as f64) < self.delta_difference_eps {
-            a == b
-        } else {
-            false
-        }
+        (self.delta.abs_diff(other.delta) as f64) < self.delta_difference_eps
+            && self.delta_count == other.delta_count
     }
 }
 
@@ -148,25 +104,26 @@ impl IslandCount {
     }
 }
 
-// Of a search among n entries that ended at i, where found stands: the place of an island that is counted already, n where it is new; and the
-// entries up to the first match, or all of them.
-pub fn place_of(i: usize, found: IslandCount, n: usize) -> Search
-    requires { (i ≤ n) × (n < 32) }
-    ensures place { (es : List IslandCount) (island : RhythmIsland) → EndsAt es n island i found
-        → (result.place ≡ place_of es n island) × (result.compared ≡ compared_of es n island) }
-    ensures within { (result.place ≤ n) × (result.place < n → result.place ≡ i) }
+// The place of the first entry whose island equals this one.
+fn first_same(counts: &[IslandCount], island: RhythmIsland) -> Option<usize>
+    ensures { result ≡ position (λ e. same_of e.island island) counts.now }
 {
-    if i < n {
-        let compared = i + 1;
-        let other = found.island;
-        if other.is_default() {
-            return Search { place: n, compared };
-        }
-        return Search { place: i, compared };
-    }
-    Search {
-        place: n,
-        compared: n,
+    counts.iter().position(|e| e.island.same(island))
+}
+
+// The place of an island that is counted already, of the first n entries, and how many of these were compared: those up to the first
+// match, or all of them. The default is not counted, whether it is found or not.
+pub fn search(counts: &[IslandCount], n: usize, island: RhythmIsland) -> (Option<usize>, usize)
+    requires { n ≤ length counts.now }
+    ensures place { unwrap_or result.0 n ≡ place_of counts.now n island }
+    ensures found { is_some result.0 ≡ ltb (place_of counts.now n island) n }
+    ensures within { IfSome result.0 (λ at. at < n) }
+    ensures compared { result.1 ≡ compared_of counts.now n island }
+{
+    match first_same(&counts[..n], island) {
+        Some(at) if counts[at].island.is_default() => (None, at + 1),
+        Some(at) => (Some(at), at + 1),
+        None => (None, n),
     }
 }
 
@@ -175,30 +132,29 @@ pub fn bumped(e: IslandCount, more: bool) -> IslandCount
     requires { CountOk 31 e }
     ensures { result ≡ bumped_of e more }
 {
-    let island = e.island;
     if more {
         IslandCount {
-            island,
             count: e.count + 1,
+            ..e
         }
     } else {
         e
     }
 }
 
-// What is to stand at an island's place, where found stands if the island is counted already.
+// What is to stand at an island's place: the entry there, of the first n, or a new one.
 pub fn entry_of(
-    found: IslandCount,
+    counts: &[IslandCount],
     n: usize,
-    at: usize,
+    found: Option<usize>,
     island: RhythmIsland,
     prev: RhythmIsland,
 ) -> IslandCount
-    requires { (IslandOk 31 island) × (IslandOk 31 prev) × (CountOk 31 found) }
-    ensures { (es : List IslandCount) → (at < n → found ≡ get_or es at no_count) → result ≡ entry_of es n at island prev }
+    requires { IfSome found (λ at. at < n) × (n ≤ length counts.now) × ((p : ℕ) → CountOk 31 (get_or counts.now p no_count)) }
+    ensures { result ≡ entry_of counts.now n (unwrap_or found n) island prev }
 {
-    if at < n {
-        return bumped(found, prev.same(island));
+    match found {
+        Some(at) => bumped(counts[at], prev.same(island)),
+        None => IslandCount { island, count: 1 },
     }
-    IslandCount { island, count: 1 }
 }

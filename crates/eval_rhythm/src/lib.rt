@@ -1,7 +1,9 @@
 // The rhythm evaluator: evaluators/rhythm.rs.
 #![tactic(auto)]
 
-ghost use Rattle.std.specs.Prelude.{◌≡◌, ◌+◌, ◌*◌, ◌-◌, ◌≤◌, ◌<◌, length};
+ghost use Rattle.std.specs.Prelude.{◌≡◌, ◌+◌, ◌*◌, ◌-◌, ◌≤◌, ◌<◌, not, cond, ltb, length};
+ghost use Rattle.num_floats.specs.Numbers.{zero64};
+ghost use Rattle.osu_difficulty_object.specs.Reading.{tapness_of, window_of};
 ghost use Rattle.chart_fields.specs.Objects.{Holds};
 ghost use Rattle.osu_object.specs.Osu.{object_of};
 ghost use Rattle.osu_records.specs.Rows.{record_at};
@@ -14,7 +16,7 @@ use chart_fields::Layout;
 use island::IslandCount;
 use osu_object::OsuObject;
 use osu_records::Part;
-use step::{Cell, Deltas, RhythmState};
+use step::{Cell, RhythmState};
 
 pub mod island;
 pub mod step;
@@ -30,13 +32,6 @@ const RHYTHM_OVERALL_MULTIPLIER: f64 = 1.0;
 pub struct Counted {
     pub value: f64,
     pub comparisons: usize,
-}
-
-// What the run gives: the sum, and the comparisons of its searches.
-#[derive(Clone, Copy)]
-struct Summed {
-    sum: f64,
-    comparisons: usize,
 }
 
 // The cell of place p, from a part of the record table.
@@ -59,11 +54,7 @@ fn historical_note_count(j: usize) -> usize
     requires { 1 ≤ j }
     ensures { result ≡ count_before j }
 {
-    if j - 1 < HISTORY_OBJECTS_MAX {
-        j - 1
-    } else {
-        HISTORY_OBJECTS_MAX
-    }
+    (j - 1).min(HISTORY_OBJECTS_MAX)
 }
 
 // How many places back the run begins: as far as the history reaches. The cell of place j is here.
@@ -80,19 +71,17 @@ fn rhythm_start(
         × (here ≡ cell_at (object_of chart.now lay) (part_at t.now part) j) }
     ensures { (result ≡ start_of (cells_at (object_of chart.now lay) (part_at t.now part) j) hist) × (result ≤ hist - 2) }
 {
-    let mut r: usize = 0;
-    while r + 2 < hist {
+    let most = hist.saturating_sub(2);
+    for r in 0..most {
         let prev = cell_at(t, part, chart, lay, j - (r + 1));
-        if here.start_time - prev.start_time < HISTORY_TIME_MAX {
-            r += 1;
-        } else {
+        if !(here.start_time - prev.start_time < HISTORY_TIME_MAX) {
             return r;
         }
     }
-    r
+    most
 }
 
-// The sum over the history, from the furthest record to the one before this.
+// The sum over the history, from the furthest record to the one before this, and how often islands were compared.
 fn run(
     t: &[f64],
     part: Part,
@@ -104,51 +93,33 @@ fn run(
     from: usize,
     window: f64,
     eps: f64,
-) -> Summed
+) -> (f64, usize)
     requires { Holds chart.now lay × (j < lay.n) × (part.first + hist ≤ j) × (hist ≤ 32) × Within t.now part j
         × (here ≡ cell_at (object_of chart.now lay) (part_at t.now part) j) × (from ≤ hist - 2) }
-    ensures { (result.sum
+    ensures { (result.0
         ≡ (run_of (cells_at (object_of chart.now lay) (part_at t.now part) j) hist window eps from (fresh_walk eps)).state.sum)
-        × (result.comparisons
+        × (result.1
         ≡ comparisons_from (cells_at (object_of chart.now lay) (part_at t.now part) j) hist window eps from (fresh_walk eps)) }
 {
     if from < 1 {
-        return Summed {
-            sum: 0.0,
-            comparisons: 0,
-        };
+        return (0.0, 0);
     }
+    // "`Vec<IslandCount>` becomes a fixed array of 32 with a count", document 01: no heap. The count is the state's n.
     let mut counts = [IslandCount::new(eps); 32];
     let mut s = RhythmState::new(eps);
     let mut prev = cell_at(t, part, chart, lay, j - (from + 1));
     let mut last = cell_at(t, part, chart, lay, j - (from + 2));
     let mut comparisons: usize = 0;
-    let mut k = from;
-    while 0 < k {
-        let curr = cell_at(t, part, chart, lay, j - k);
-        let decay = step::decay(here.start_time, curr.start_time, hist, k);
-        let d = Deltas::new(curr, prev, last);
-        if s.switches(d, eps) {
-            let mut i: usize = 0;
-            while s.passes(i, counts[i]) {
-                i += 1;
-            }
-            let found = counts[i];
-            let switch = s.switch_step(i, found, d, curr, prev, decay, window, eps);
-            let place = switch.place;
-            let entry = switch.entry;
-            counts[place] = entry;
-            comparisons += switch.compared;
-            s = switch.state;
-        } else {
-            s = s.other_step(d, curr, prev, eps);
-        }
+    for k in (0..from).rev() {
+        let curr = cell_at(t, part, chart, lay, j - (k + 1));
+        let decay = step::decay(here.start_time, curr.start_time, hist, k + 1);
+        let turn = s.turn(&mut counts, curr, prev, last, decay, window, eps);
+        comparisons += turn.compared;
+        s = turn.state;
         last = prev;
         prev = curr;
-        k -= 1;
     }
-    let sum = s.sum;
-    Summed { sum, comparisons }
+    (s.sum, comparisons)
 }
 
 // From the sum, and the doubletapness with the next record.
@@ -156,6 +127,20 @@ fn value(sum: f64, tap: f64) -> f64
     ensures { result ≡ value_of sum tap }
 {
     num_roots::root(4.0 + sum * RHYTHM_OVERALL_MULTIPLIER) / 2.0 * (1.0 - tap)
+}
+
+// The doubletapness of place j, whose cell is here, with the next record: none where the part doesn't reach it.
+fn tap_of(t: &[f64], part: Part, j: usize, here: Cell, hit_window: f64) -> f64
+    requires { Covers t.now part j }
+    ensures { result ≡ cond (not (ltb j part.last)) zero64
+        (tapness_of here.delta_time (part_at t.now part (j + 1)).delta_time (window_of here.spinner hit_window)) }
+{
+    if part.last <= j {
+        return 0.0;
+    }
+    let next = osu_records::record_at(t, j + 1 - part.first);
+    let window = osu_difficulty_object::window_of(here.spinner, hit_window);
+    osu_difficulty_object::tapness(here.delta_time, next.delta_time, window)
 }
 
 // The value at place j and its comparisons, from a part of the record table.
@@ -181,19 +166,9 @@ fn counted_diff_of(
     let eps = hit_window * 0.3;
     let hist = historical_note_count(j);
     let from = rhythm_start(t, part, chart, lay, j, here, hist);
-    let run = run(t, part, chart, lay, j, here, hist, from, hit_window, eps);
-    let comparisons = run.comparisons;
-    if j < part.last {
-        let next = osu_records::record_at(t, j + 1 - part.first);
-        let window = osu_difficulty_object::window_of(here.spinner, hit_window);
-        let tap = osu_difficulty_object::tapness(here.delta_time, next.delta_time, window);
-        return Counted {
-            value: value(run.sum, tap),
-            comparisons,
-        };
-    }
+    let (sum, comparisons) = run(t, part, chart, lay, j, here, hist, from, hit_window, eps);
     Counted {
-        value: value(run.sum, 0.0),
+        value: value(sum, tap_of(t, part, j, here, hit_window)),
         comparisons,
     }
 }
@@ -210,8 +185,7 @@ pub fn evaluate_diff_of(
     requires { Holds chart.now lay × (j < lay.n) × Covers t.now part j }
     ensures { result ≡ rhythm_at_place (object_of chart.now lay) (part_at t.now part) part.last j hit_window }
 {
-    let counted = counted_diff_of(t, part, chart, lay, j, hit_window);
-    counted.value
+    counted_diff_of(t, part, chart, lay, j, hit_window).value
 }
 
 // The value at place j of a whole table and its comparisons: the evaluator is lent the middle of it.
@@ -221,9 +195,8 @@ pub fn evaluate_counted(t: &[f64], chart: &[u8], lay: Layout, j: usize, hit_wind
         × (result.comparisons ≡ comparisons_at_place (object_of chart.now lay) (record_at t.now) j hit_window) }
 {
     let part = osu_records::part_of(j, lay.n);
-    let from = 16 * part.first;
-    let to = 16 * (part.last + 1);
-    counted_diff_of(&t[from..to], part, chart, lay, j, hit_window)
+    let middle = &t[16 * part.first..16 * (part.last + 1)];
+    counted_diff_of(middle, part, chart, lay, j, hit_window)
 }
 
 // The value at place j of a whole table.
@@ -231,6 +204,5 @@ pub fn evaluate_place(t: &[f64], chart: &[u8], lay: Layout, j: usize, hit_window
     requires { Holds chart.now lay × (1 ≤ j) × (j < lay.n) × (16 * lay.n ≤ length t.now) }
     ensures { result ≡ rhythm_at_place (object_of chart.now lay) (record_at t.now) (last_place j lay.n) j hit_window }
 {
-    let counted = evaluate_counted(t, chart, lay, j, hit_window);
-    counted.value
+    evaluate_counted(t, chart, lay, j, hit_window).value
 }

@@ -1,12 +1,11 @@
 // A turn of the loop of evaluators/rhythm.rs.
-ghost use Rattle.std.specs.Prelude.{◌≡◌, true, false, cond, List, ◌+◌, ◌≤◌, ◌<◌, set, Float};
-ghost use Rattle.std.specs.Int.Signed.{non_neg};
+ghost use Rattle.std.specs.Prelude.{◌≡◌, ℕ, false, cond, List, ◌+◌, ◌≤◌, ◌<◌, get_or, Float};
 ghost use Rattle.eval_rhythm.specs.Island.{IslandOk};
-ghost use Rattle.eval_rhythm.specs.Counts.{EndsAt, CountOk};
+ghost use Rattle.eval_rhythm.specs.Counts.{CountOk, no_count};
 ghost use Rattle.eval_rhythm.specs.Step.{scaled_of, effective_of, decay_of, faster_twice, switch_ratio, factor_of, last_ratio};
 ghost use Rattle.eval_rhythm.specs.Step.{progressed_of, began_of, switched_of, fresh_state, deltas_of};
-ghost use Rattle.eval_rhythm.specs.Step.{switches_of, passes_of, ratio_of, walk_of, switch_step, step_by};
-ghost use Rattle.eval_rhythm.specs.Comparisons.{compared_at};
+ghost use Rattle.eval_rhythm.specs.Step.{switches_of, ratio_of, walk_of, switch_step, step_by, step_of};
+ghost use Rattle.eval_rhythm.specs.Comparisons.{compared_at, compared_in};
 ghost use Rattle.eval_rhythm.specs.declared.island.IslandCount.{IslandCount};
 
 use crate::island::{IslandCount, RhythmIsland};
@@ -28,12 +27,10 @@ pub struct RhythmState {
     pub n: usize,
 }
 
-// What a switch gives: the state after it, the entry to store and its place, and how many entries were compared.
+// What a turn gives: the state after it, and how many entries were compared.
 #[derive(Clone, Copy)]
-pub struct Switch {
+pub struct Turn {
     pub state: RhythmState,
-    pub place: usize,
-    pub entry: IslandCount,
     pub compared: usize,
 }
 
@@ -108,11 +105,7 @@ pub fn decay(start: f64, other: f64, hist: usize, k: usize) -> f64
 pub fn faster_twice(d: Deltas, eps: f64) -> bool
     ensures { result ≡ faster_twice d eps }
 {
-    if d.last > d.prev + eps {
-        d.prev > d.curr + eps
-    } else {
-        false
-    }
+    d.last > d.prev + eps && d.prev > d.curr + eps
 }
 
 // For an island that was counted so often.
@@ -165,11 +158,9 @@ impl RhythmState {
     pub fn new(eps: f64) -> Self
         ensures { result ≡ fresh_state eps }
     {
-        let island = RhythmIsland::new(eps);
-        let prev_island = RhythmIsland::new(eps);
         Self {
-            island,
-            prev_island,
+            island: RhythmIsland::new(eps),
+            prev_island: RhythmIsland::new(eps),
             first_delta_switch: false,
             start_ratio: 0.0,
             sum: 0.0,
@@ -182,23 +173,22 @@ impl RhythmState {
         requires { IslandOk 31 self.island }
         ensures { result ≡ progressed_of self delta }
     {
-        let old = self.island;
-        let island = old.add_delta(delta);
-        let mut next = self;
-        next.island = island;
-        next
+        Self {
+            island: self.island.add_delta(delta),
+            ..self
+        }
     }
 
     // Speeding up: an island begins.
     pub fn began(self, ratio: f64, delta: i32, eps: f64) -> Self
         ensures { result ≡ began_of self ratio delta eps }
     {
-        let island = RhythmIsland::new_with_delta(delta, eps);
-        let mut next = self;
-        next.island = island;
-        next.first_delta_switch = true;
-        next.start_ratio = ratio;
-        next
+        Self {
+            island: RhythmIsland::new_with_delta(delta, eps),
+            first_delta_switch: true,
+            start_ratio: ratio,
+            ..self
+        }
     }
 
     // A switch: the island ends, and another begins.
@@ -214,12 +204,10 @@ impl RhythmState {
         requires { self.n < 32 }
         ensures { result ≡ switched_of self ratio repeated on decay delta eps }
     {
-        let island = RhythmIsland::new_with_delta(delta, eps);
-        let prev_island = self.island;
         let root = num_roots::root(ratio * self.start_ratio);
         Self {
-            island,
-            prev_island,
+            island: RhythmIsland::new_with_delta(delta, eps),
+            prev_island: self.island,
             first_delta_switch: on,
             start_ratio: ratio,
             sum: self.sum + root * decay,
@@ -231,24 +219,7 @@ impl RhythmState {
     pub fn switches(self, d: Deltas, eps: f64) -> bool
         ensures { result ≡ switches_of self d eps }
     {
-        if self.first_delta_switch {
-            !(num_floats::abs(d.prev - d.curr) < eps)
-        } else {
-            false
-        }
-    }
-
-    // The search goes past i, where entry stands: it is one of the n, and not the island's.
-    pub fn passes(self, i: usize, entry: IslandCount) -> bool
-        requires { (non_neg self.island.delta ≡ true) × (non_neg entry.island.delta ≡ true) }
-        ensures { result ≡ passes_of self i entry }
-    {
-        let other = entry.island;
-        if i < self.n {
-            !other.same(self.island)
-        } else {
-            false
-        }
+        self.first_delta_switch && !(num_floats::abs(d.prev - d.curr) < eps)
     }
 
     // The ratio of a switch before the island counts.
@@ -256,53 +227,47 @@ impl RhythmState {
         requires { (IslandOk 31 self.island) × (IslandOk 31 self.prev_island) }
         ensures { result ≡ ratio_of self (effective_of d.prev d.curr eps) d curr prev eps }
     {
-        let island = self.island;
-        let prev_island = self.prev_island;
-        let ratio = effective(d.prev, d.curr, eps);
-        let similar = island.is_similar_polarity(prev_island);
-        let faster = faster_twice(d, eps);
-        let equal = prev_island.delta_count == island.delta_count;
-        switch_ratio(ratio, curr.slider, prev.slider, similar, faster, equal)
+        switch_ratio(
+            effective(d.prev, d.curr, eps),
+            curr.slider,
+            prev.slider,
+            self.island.is_similar_polarity(self.prev_island),
+            faster_twice(d, eps),
+            self.prev_island.delta_count == self.island.delta_count,
+        )
     }
 
-    // A switch, where the search for the island among the n entries ended at i, and found stands there.
+    // A switch: the island that ends is counted, and another begins.
     pub fn switch_step(
         self,
-        i: usize,
-        found: IslandCount,
+        counts: &mut [IslandCount; 32],
         d: Deltas,
         curr: Cell,
         prev: Cell,
         decay: f64,
         window: f64,
         eps: f64,
-    ) -> Switch
-        requires { (i ≤ self.n) × (self.n < 32) × (IslandOk 31 self.island) × (IslandOk 31 self.prev_island) × (CountOk 31 found) }
-        ensures turn { (es : List IslandCount) → EndsAt es self.n self.island i found
-            → (walk_of result.state (set es result.place result.entry)
-            ≡ switch_step (walk_of self es) (effective_of d.prev d.curr eps) d curr prev decay window eps)
-            × (result.compared ≡ compared_at (walk_of self es)) }
-        ensures within { result.place ≤ self.n }
+    ) -> Turn
+        requires { (self.n < 32) × (IslandOk 31 self.island) × (IslandOk 31 self.prev_island)
+            × ((p : ℕ) → CountOk 31 (get_or counts.old p no_count)) }
+        ensures turn { walk_of result.state counts.new
+            ≡ switch_step (walk_of self counts.old) (effective_of d.prev d.curr eps) d curr prev decay window eps }
+        ensures compared { result.compared ≡ compared_at (walk_of self counts.old) }
     {
         let n = self.n;
         let island = self.island;
-        let prev_island = self.prev_island;
-        let search = island::place_of(i, found, n);
-        let place = search.place;
-        let entry = island::entry_of(found, n, place, island, prev_island);
+        let (found, compared) = island::search(&counts[..], n, island);
+        let place = found.unwrap_or(n);
+        let entry = island::entry_of(&counts[..], n, found, island, self.prev_island);
+        counts[place] = entry;
         let ratio = self.ratio(d, curr, prev, eps);
         let tap_window = osu_difficulty_object::window_of(prev.spinner, window);
         let tap = osu_difficulty_object::tapness(prev.delta_time, curr.delta_time, tap_window);
-        let repeated = place < n;
+        let repeated = found.is_some();
         let last = last_ratio(ratio, repeated, island.delta, entry.count, tap);
         let on = !(d.prev + eps < d.curr);
         let state = self.switched(last, repeated, on, decay, num_whole::to_i32(d.curr), eps);
-        Switch {
-            state,
-            place,
-            entry,
-            compared: search.compared,
-        }
+        Turn { state, compared }
     }
 
     // The state after a turn that does not switch: the island goes on, another begins, or nothing changes.
@@ -320,5 +285,31 @@ impl RhythmState {
             return self.began(r, num_whole::to_i32(d.curr), eps);
         }
         self
+    }
+
+    // The turn of the record in `curr`, which two others precede.
+    pub fn turn(
+        self,
+        counts: &mut [IslandCount; 32],
+        curr: Cell,
+        prev: Cell,
+        last: Cell,
+        decay: f64,
+        window: f64,
+        eps: f64,
+    ) -> Turn
+        requires { (self.n < 32) × (IslandOk 31 self.island) × (IslandOk 31 self.prev_island)
+            × ((p : ℕ) → CountOk 31 (get_or counts.old p no_count)) }
+        ensures turn { walk_of result.state counts.new ≡ step_of (walk_of self counts.old) curr prev last decay window eps }
+        ensures compared { result.compared ≡ compared_in (walk_of self counts.old) curr prev last eps }
+    {
+        let d = Deltas::new(curr, prev, last);
+        if self.switches(d, eps) {
+            return self.switch_step(counts, d, curr, prev, decay, window, eps);
+        }
+        Turn {
+            state: self.other_step(d, curr, prev, eps),
+            compared: 0,
+        }
     }
 }

@@ -1,12 +1,16 @@
 -- `eval_rhythm::island::entry_of` meets its contract. Assumes nothing.
+use Prim.Native.Nat.{◌<◌}
+use native.Mathlib.Omega.{arith}
 use borrow.Author.Tests.{lt-ltb, le-ltb}
 use Rattle.eval_rhythm.specs.Counts.{entry_of}
 use Rattle.eval_rhythm.proofs.island.entry_of.Goals as goal
 
-pub returns-then-at-n : goal.returns-then-at-n
+pub returns-in-Some : goal.returns-in-Some
 unfolding entry_of
-returns-then-at-n c = λ es h. simp (c.bumped.ensures, c.same.ensures, ← h c.if-at-n.true, lt-ltb _ _ c.if-at-n.true)
+returns-in-Some c =
+    let below : c.in-Some.at < c.args.n = rw c.in-Some.is at c.requires.0 in
+    simp (c.bumped.ensures, c.same.ensures, c.in-Some.is, lt-ltb _ _ below)
 
-pub returns : goal.returns
+pub returns-in-None : goal.returns-in-None
 unfolding entry_of
-returns c = λ es h. simp (le-ltb _ _ c.if-at-n.false)
+returns-in-None c = simp (c.in-None.is, le-ltb c.args.n c.args.n (omega arith))

@@ -5,4 +5,4 @@ use Rattle.eval_rhythm.proofs.step.RhythmState.began.Goals as goal
 
 pub returns : goal.returns
 unfolding began_of
-returns c = simp c.new_with_delta-island.ensures (simp (back _ c.ranges.delta))
+returns c = simp c.new_with_delta.ensures (simp (back _ c.ranges.delta))

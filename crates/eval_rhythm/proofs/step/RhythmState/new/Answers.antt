@@ -4,4 +4,4 @@ use Rattle.eval_rhythm.proofs.step.RhythmState.new.Goals as goal
 
 pub returns : goal.returns
 unfolding fresh_state
-returns c = simp (c.new-prev_island.ensures, c.new-island.ensures)
+returns c = simp (c.new-2.ensures, c.new.ensures)

@@ -5,4 +5,4 @@ use Rattle.eval_rhythm.proofs.step.RhythmState.progressed.Goals as goal
 
 pub returns : goal.returns
 unfolding progressed_of
-returns c = simp c.add_delta-island.ensures (simp (back _ c.ranges.delta))
+returns c = simp c.add_delta.ensures (simp (back _ c.ranges.delta))

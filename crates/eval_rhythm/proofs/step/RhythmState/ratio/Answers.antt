@@ -4,4 +4,4 @@ use Rattle.eval_rhythm.proofs.step.RhythmState.ratio.Goals as goal
 
 pub returns : goal.returns
 unfolding ratio_of
-returns c = simp (c.switch_ratio.ensures, c.faster_twice-faster.ensures, c.is_similar_polarity-similar.ensures, c.effective-ratio.ensures)
+returns c = simp (c.switch_ratio.ensures, c.faster_twice.ensures, c.is_similar_polarity.ensures, c.effective.ensures)

@@ -5,4 +5,4 @@ use Rattle.eval_rhythm.proofs.step.RhythmState.switched.Goals as goal
 
 pub returns : goal.returns
 unfolding switched_of
-returns c = simp (c.entries_after.ensures, c.root-root.ensures, c.new_with_delta-island.ensures) (simp (back _ c.ranges.delta))
+returns c = simp (c.entries_after.ensures, c.root-root.ensures, c.new_with_delta.ensures) (simp (back _ c.ranges.delta))
