@@ -54,12 +54,13 @@ pub fn put_values(values: &mut [f64], j: usize, v: Values)
     requires { (j < 65536) × (5 * j + 5 ≤ length values.old) }
     ensures { values.new ≡ put (5 * j) (row_of v) values.old }
 {
-    let at = 5 * j;
-    values[at] = v.aim;
-    values[at + 1] = v.aim_no_sliders;
-    values[at + 2] = v.speed;
-    values[at + 3] = v.rhythm;
-    values[at + 4] = v.flashlight;
+    values[5 * j..5 * j + 5].copy_from_slice(&[
+        v.aim,
+        v.aim_no_sliders,
+        v.speed,
+        v.rhythm,
+        v.flashlight,
+    ]);
 }
 
 // Makes the rows of places lo to hi - 1 anew: opening's and replacing's loop.
@@ -75,10 +76,7 @@ pub fn fill_values(
     requires { Ready chart.now lay × (1 ≤ lo) × (hi ≤ lay.n) × (16 * lay.n ≤ length t.now) × (5 * lay.n ≤ length values.old) }
     ensures { values.new ≡ fill 5 (values_in set chart.now lay t.now) lo (hi - lo) values.old }
 {
-    let mut j = lo;
-    while j < hi {
-        let v = values_at(t, chart, lay, set, j);
-        put_values(values, j, v);
-        j += 1;
+    for j in lo..hi {
+        put_values(values, j, values_at(t, chart, lay, set, j));
     }
 }
