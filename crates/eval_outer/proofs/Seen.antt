@@ -11,8 +11,7 @@ use borrow.Author.Tests.{lt-ltb, le-ltb}
 use Rattle.num_whole.specs.NarrowLaws.{narrow_widened}
 use Rattle.num_tables.specs.Parts.{fill}
 use Rattle.num_tables.proofs.Rows.{row_fill-in}
-use Rattle.chart_fields.specs.declared.Layout.{Layout}
-use Rattle.osu_object.specs.Osu.{Object, object_of}
+use Rattle.osu_object.specs.Osu.{Object}
 use Rattle.osu_object.specs.Base.{repeats_of}
 use Rattle.osu_difficulty_object.specs.declared.OsuDifficultyObject.{OsuDifficultyObject as Record}
 use Rattle.osu_records.specs.Rows.{row_of, record_at as entry_at}
@@ -29,7 +28,7 @@ use Rattle.eval_rhythm.proofs.Laws.{rhythm_same}
 use Rattle.eval_flashlight.specs.declared.FlashlightEvaluator.{FlashlightEvaluator}
 use Rattle.eval_flashlight.specs.Flashlight.{ends_of, flashlight_at_place}
 use Rattle.eval_flashlight.proofs.Walk.{flashlight_same}
-use Rattle.eval_outer.specs.Records.{record_of, window_of, slot_at, in_window, last_of, InF32, InF32s}
+use Rattle.eval_outer.specs.Records.{record_of, window_of, slot_at, in_window, last_of, InF32, InF32s, Shows}
 use Rattle.eval_outer.proofs.Slots.{slot_is}
 
 -- two tables agree on the places of a window of place j
@@ -66,7 +65,7 @@ place_of : (a p : ℕ) → a ≤ p → a + (p - a) ≡ p
 place_of a p h = omega arith
 
 -- j is before the last place of the window where it is before the end of the slice
-pub next_alike : (j last records : ℕ) → last ≡ last_of j records → ltb j last ≡ ltb j records
+next_alike : (j last records : ℕ) → last ≡ last_of j records → ltb j last ≡ ltb j records
 next_alike j last records e = ap (ltb j) e ∙ go (ltb j records)
   where
     go : (b : Bool) → ltb j (cond b (j + 1) j) ≡ b
@@ -114,7 +113,7 @@ module _ (os : ℕ → Object) (rs qs : ℕ → Record) (j : ℕ) (one : 1 ≤ j
 
 -- ---- the window of a slice agrees with the slice
 
-pub window_agrees : (rs : List Record) (j : ℕ) → Agree j (in_window (window_of rs j) j) (record_of rs)
+window_agrees : (rs : List Record) (j : ℕ) → Agree j (in_window (window_of rs j) j) (record_of rs)
 window_agrees rs j p h l = slot_is rs j (p - first_place j) (slot_of (first_place j) p l) ∙ ap (record_of rs) (place_of (first_place j) p h)
 
 -- ---- the table that a window is put into agrees with the window
@@ -127,49 +126,30 @@ table_at w t room k l h =
     record_is (table_of w t) k (slot_at w k) (record { x = narrow_widened binary32 _ h.x; y = narrow_widened binary32 _ h.y })
     (row_fill-in 16 (λ i. row_of (slot_at w i)) (λ i. row_length (slot_at w i)) k 0 34 t (λ _. room) (omega arith) (omega arith))
 
-module _ (chart : List ℕ) (lay : Layout) (w : List Record) (t u : List Float) (j : ℕ) (part : Part)
-    (one : 1 ≤ j) (f : part.first ≡ first_place j) (room : 544 ≤ length t) (ok : InF32s w) (put : u ≡ table_of w t) where
-  abbrev os : ℕ → Object
-  os = object_of chart lay
+-- so it shows the slice that the window is of
+pub table_shows : (rs w : List Record) (j : ℕ) (t u : List Float) → 544 ≤ length t → w ≡ window_of rs j → InF32s w → u ≡ table_of w t → Shows u rs j
+table_shows rs w j t u room of ok put p h l =
+    let k : ℕ = p - first_place j in
+    ap (λ (v : List Float). entry_at v k) put ∙ table_at w t room k (slot_of (first_place j) p l) (ok k (slot_of (first_place j) p l))
+    ∙ ap (λ (v : List Record). slot_at v k) of ∙ window_agrees rs j p h l
 
-  agrees : Agree j (part_at u part) (in_window w j)
-  agrees p h l =
-      ap (λ (v : List Float). part_at v part p) put ∙ ap (λ (a : ℕ). entry_at (table_of w t) (p - a)) f
-      ∙ table_at w t room (p - first_place j) (slot_of (first_place j) p l) (ok (p - first_place j) (slot_of (first_place j) p l))
+-- ---- a part that shows a slice has its values
 
-  pub aim_table : (sliders : Bool) → aim_at_place os (part_at u part) j sliders ≡ aim_at_place os (in_window w j) j sliders
-  aim_table sliders = aim_seen os (part_at u part) (in_window w j) j one agrees sliders
+module _ (os : ℕ → Object) (t : List Float) (rs : List Record) (j : ℕ) (part : Part) (one : 1 ≤ j) (f : part.first ≡ first_place j) (shown : Shows t rs j) where
+  agrees : Agree j (part_at t part) (record_of rs)
+  agrees p h l = ap (λ (a : ℕ). entry_at t (p - a)) f ∙ shown p h l
 
-  pub flashlight_table : (e : FlashlightEvaluator) (hidden : Bool) → flashlight_at_place e os (part_at u part) j hidden ≡ flashlight_at_place e os (in_window w j) j hidden
-  flashlight_table e hidden = flashlight_seen os (part_at u part) (in_window w j) j one agrees e hidden
+  pub aim_shown : (sliders : Bool) → aim_at_place os (part_at t part) j sliders ≡ aim_at_place os (record_of rs) j sliders
+  aim_shown sliders = aim_seen os (part_at t part) (record_of rs) j one agrees sliders
 
-  pub speed_table : (records : ℕ) → part.last ≡ last_of j records → (window : Float) (autopilot : Bool)
-      → speed_at_place os (part_at u part) part.last j window autopilot ≡ speed_at_place os (in_window w j) records j window autopilot
-  speed_table records e window autopilot =
-      speed_seen os (part_at u part) (in_window w j) j one agrees part.last records (next_alike j part.last records e) window autopilot
+  pub flashlight_shown : (e : FlashlightEvaluator) (hidden : Bool) → flashlight_at_place e os (part_at t part) j hidden ≡ flashlight_at_place e os (record_of rs) j hidden
+  flashlight_shown e hidden = flashlight_seen os (part_at t part) (record_of rs) j one agrees e hidden
 
-  pub rhythm_table : (records : ℕ) → part.last ≡ last_of j records → (window : Float)
-      → rhythm_at_place os (part_at u part) part.last j window ≡ rhythm_at_place os (in_window w j) records j window
-  rhythm_table records e window = rhythm_seen os (part_at u part) (in_window w j) j one agrees part.last records (next_alike j part.last records e) window
+  pub speed_shown : part.last ≡ last_of j (length rs) → (window : Float) (autopilot : Bool)
+      → speed_at_place os (part_at t part) part.last j window autopilot ≡ speed_at_place os (record_of rs) (length rs) j window autopilot
+  speed_shown e window autopilot =
+      speed_seen os (part_at t part) (record_of rs) j one agrees part.last (length rs) (next_alike j part.last (length rs) e) window autopilot
 
--- ---- a window has the values of the slice that it is of
-
-module _ (chart : List ℕ) (lay : Layout) (rs w : List Record) (j : ℕ) (one : 1 ≤ j) (of : w ≡ window_of rs j) where
-  abbrev objects : ℕ → Object
-  objects = object_of chart lay
-
-  same_slot : Agree j (in_window w j) (record_of rs)
-  same_slot p h l = ap (λ (v : List Record). in_window v j p) of ∙ window_agrees rs j p h l
-
-  pub aim_window : (sliders : Bool) → aim_at_place objects (in_window w j) j sliders ≡ aim_at_place objects (record_of rs) j sliders
-  aim_window sliders = aim_seen objects (in_window w j) (record_of rs) j one same_slot sliders
-
-  pub flashlight_window : (e : FlashlightEvaluator) (hidden : Bool) → flashlight_at_place e objects (in_window w j) j hidden ≡ flashlight_at_place e objects (record_of rs) j hidden
-  flashlight_window e hidden = flashlight_seen objects (in_window w j) (record_of rs) j one same_slot e hidden
-
-  pub speed_window : (window : Float) (autopilot : Bool)
-      → speed_at_place objects (in_window w j) (length rs) j window autopilot ≡ speed_at_place objects (record_of rs) (length rs) j window autopilot
-  speed_window window autopilot = speed_seen objects (in_window w j) (record_of rs) j one same_slot (length rs) (length rs) refl window autopilot
-
-  pub rhythm_window : (window : Float) → rhythm_at_place objects (in_window w j) (length rs) j window ≡ rhythm_at_place objects (record_of rs) (length rs) j window
-  rhythm_window window = rhythm_seen objects (in_window w j) (record_of rs) j one same_slot (length rs) (length rs) refl window
+  pub rhythm_shown : part.last ≡ last_of j (length rs) → (window : Float)
+      → rhythm_at_place os (part_at t part) part.last j window ≡ rhythm_at_place os (record_of rs) (length rs) j window
+  rhythm_shown e window = rhythm_seen os (part_at t part) (record_of rs) j one agrees part.last (length rs) (next_alike j part.last (length rs) e) window

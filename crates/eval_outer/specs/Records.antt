@@ -1,9 +1,10 @@
 -- Document 01, "outer entry takes the lent slice of records as the Rust does": the slice, the window that an evaluator at a place sees of it, and what stands past its end. Definitions only.
-use Rattle.std.specs.Prelude.{ℕ, zero, suc, ◌+◌, ◌-◌, ◌<◌, false, cond, List, [], ◌∷◌, T, ltb, get_or}
+use Rattle.std.specs.Prelude.{ℕ, zero, suc, ◌+◌, ◌-◌, ◌≤◌, ◌<◌, ◌≡◌, false, cond, List, [], ◌∷◌, T, ltb, get_or, Float}
 use Rattle.std.specs.Float.{nan, binary32, binary64}
 use Rattle.std.specs.Float.Ieee.{of_bits, fits}
 use Rattle.osu_difficulty_object.specs.declared.OsuDifficultyObject.{OsuDifficultyObject}
 use Rattle.osu_records.specs.Part.{first_place}
+use Rattle.osu_records.specs.Rows.{record_at as entry_at}
 
 -- a record of zeros: what stands past the end of a slice
 abbrev pub no_record : OsuDifficultyObject
@@ -71,6 +72,10 @@ slot_at w k = get_or w k blank
 -- the record of place p, in a window of place j
 abbrev pub in_window : List OsuDifficultyObject → ℕ → ℕ → OsuDifficultyObject
 in_window w j p = slot_at w (p - first_place j)
+
+-- a part of the table of records shows the records of a slice from 32 places before j to one after
+abbrev pub Shows : List Float → List OsuDifficultyObject → ℕ → Type 0
+Shows t rs j = (p : ℕ) → first_place j ≤ p → p < first_place j + 34 → entry_at t (p - first_place j) ≡ record_of rs p
 
 -- the last place of which an evaluator at place j sees the record: the next one where a slice of so many records has it
 abbrev pub last_of : ℕ → ℕ → ℕ

@@ -1,13 +1,11 @@
--- `eval_outer::evaluate_rhythm` meets its contract: the window has the values of the slice. Assumes nothing.
+-- `eval_outer::evaluate_rhythm` meets its contract: the table shows the slice. Assumes nothing.
 use mathlib.Core.Path.{◌∙◌}
-use Rattle.eval_outer.proofs.Seen.{rhythm_window}
-use Rattle.eval_outer.proofs.Singles.{in_f32}
+use Rattle.osu_object.specs.Osu.{object_of}
+use Rattle.eval_outer.proofs.Seen.{rhythm_shown}
 use Rattle.eval_outer.proofs.evaluate_rhythm.Goals as goal
-
-pub rhythm_in-requires : goal.rhythm_in-requires
-rhythm_in-requires c = let p = c.requires in (in_f32 c.window-w.result _ c.window-w.type_inv, p.0, p.1, p.2)
 
 pub returns : goal.returns
 returns c =
     let a = c.args in
-    c.rhythm_in.ensures ∙ rhythm_window a.chart.now a.lay a.diff_objects.now c.window-w.result a.j c.requires.1 c.window-w.ensures a.hit_window
+    c.evaluate_diff_of.ensures
+    ∙ rhythm_shown (object_of a.chart.now a.lay) c.table-t.result a.diff_objects.now a.j c.part_in-part.result c.requires.1 c.part_in-part.ensures.0 c.table-t.ensures c.part_in-part.ensures.1 a.hit_window
