@@ -18,12 +18,9 @@ fn put_root(out: &mut [u8], at: usize, j: u64, t: u64) -> usize
 fn put_table(out: &mut [u8]) -> usize
     ensures { Puts (table_text 40) out.old 0 out.new result }
 {
-    let roots = num_two_table::table();
     let mut end = 0;
-    let mut i = 0;
-    while i < 40 {
-        end = put_root(out, end, (i + 1) as u64, roots[i]);
-        i += 1;
+    for (i, root) in num_two_table::table().iter().enumerate() {
+        end = put_root(out, end, i as u64 + 1, *root);
     }
     end
 }

@@ -4,7 +4,6 @@ use native.Mathlib.Numerals.{add-one}
 use native.Mathlib.Omega.{arith}
 use mathlib.Core.Path.{◌≡◌, ap, ◌∙◌}
 use mathlib.Core.List.{List}
-use borrow.Author.Rules.{rules}
 use lib.ListN.{get_or}
 use Rattle.print_text.specs.Buffer.{Puts, none, then, same_text, length_kept}
 use Rattle.num_elementary.specs.Two.{two_root}
@@ -23,15 +22,15 @@ module _ (roots out₀ out out' : List ℕ) (at end end' i : ℕ) (table : roots
 
 pub loop-i-init : goal.loop-i-init
 unfolding table_text
-loop-i-init c = (search rules, none _ _)
+loop-i-init c = none _ _
 
 pub loop-i-preserved : goal.loop-i-preserved
-loop-i-preserved c = (search rules, more _ _ _ _ 0 _ _ _ c.table-roots.ensures.1 c.loop-i-test.true c.loop-i.invariant.1 c.put_root-end.ensures)
+loop-i-preserved c = more _ _ _ _ 0 _ _ _ c.table.ensures.1 c.loop-i-test.true c.loop-i.invariant c.put_root-end.ensures
 
 pub shape_of-out : goal.shape_of-out
-shape_of-out c = length_kept c.loop-i.invariant.1
+shape_of-out c = length_kept c.loop-i.invariant
 
 pub returns : goal.returns
 returns c =
     let all : c.loop-i.i ≡ 40 = omega arith in
-    same_text (ap table_text all) c.loop-i.invariant.1
+    same_text (ap table_text all) c.loop-i.invariant
