@@ -40,25 +40,14 @@ fn check_place(n: usize, numbers: usize, width: usize, place: usize) -> Result<(
     if numbers < width * n {
         return Err(Refusal::Table);
     }
-    if (0 < place) & (place < n) {
-        return Ok(());
+    if !((0 < place) & (place < n)) {
+        return Err(Refusal::Place);
     }
-    Err(Refusal::Place)
+    Ok(())
 }
 
-// Conditions 1, 7 and 8 of a reading.
-fn check_reading(chart: &[u8], numbers: usize, width: usize, place: usize) -> Result<(), Refusal>
-    requires { (0 < width) × (width ≤ record_width) }
-    ensures { result ≡ read_verdict chart.now (numbers / width) place }
-{
-    if !chart_opening::header_ok(chart) {
-        return Err(Refusal::Header);
-    }
-    check_place(chart_opening::layout_of(chart).n, numbers, width, place)
-}
-
-// The same for the second player, with 2 right after 1 for settings of another length.
-fn check_reading_as(
+// Conditions 1, 7 and 8 of a reading for the second player, with 2 right after 1 for settings of another length.
+fn check_reading(
     chart: &[u8],
     settings: &[u8],
     numbers: usize,
@@ -79,20 +68,28 @@ fn check_reading_as(
 }
 
 // The record of a place, as the table has it.
-pub fn read_record(chart: &[u8], records: &[f64], place: usize) -> Result<OsuDifficultyObject, Refusal>
+pub fn read_record(
+    chart: &[u8],
+    records: &[f64],
+    place: usize,
+) -> Result<OsuDifficultyObject, Refusal>
     ensures { outcome_with (record_answer result) chart.now records.now []
         ≡ outcome (ops.read_record place) (state chart.now records.now []) }
 {
-    check_reading(chart, records.len(), calls::RECORD_WIDTH, place)?;
-    Ok(osu_records::record_at(records, place))
+    read_record_as(chart, calls::own_settings(chart)?, records, place)
 }
 
 // The record of a place, as the table has it, for the second player.
-pub fn read_record_as(chart: &[u8], settings: &[u8], records: &[f64], place: usize) -> Result<OsuDifficultyObject, Refusal>
+pub fn read_record_as(
+    chart: &[u8],
+    settings: &[u8],
+    records: &[f64],
+    place: usize,
+) -> Result<OsuDifficultyObject, Refusal>
     ensures { outcome_with (record_answer result) chart.now records.now []
         ≡ outcome_as settings.now (ops.read_record place) (state chart.now records.now []) }
 {
-    check_reading_as(chart, settings, records.len(), calls::RECORD_WIDTH, place)?;
+    check_reading(chart, settings, records.len(), calls::RECORD_WIDTH, place)?;
     Ok(osu_records::record_at(records, place))
 }
 
@@ -101,16 +98,20 @@ pub fn read_values(chart: &[u8], values: &[f64], place: usize) -> Result<Values,
     ensures { outcome_with (values_answer result) chart.now [] values.now
         ≡ outcome (ops.read_values place) (state chart.now [] values.now) }
 {
-    check_reading(chart, values.len(), calls::VALUE_WIDTH, place)?;
-    Ok(eval_values::row_at(values, place))
+    read_values_as(chart, calls::own_settings(chart)?, values, place)
 }
 
 // The values of a place, as the table has them, for the second player.
-pub fn read_values_as(chart: &[u8], settings: &[u8], values: &[f64], place: usize) -> Result<Values, Refusal>
+pub fn read_values_as(
+    chart: &[u8],
+    settings: &[u8],
+    values: &[f64],
+    place: usize,
+) -> Result<Values, Refusal>
     ensures { outcome_with (values_answer result) chart.now [] values.now
         ≡ outcome_as settings.now (ops.read_values place) (state chart.now [] values.now) }
 {
-    check_reading_as(chart, settings, values.len(), calls::VALUE_WIDTH, place)?;
+    check_reading(chart, settings, values.len(), calls::VALUE_WIDTH, place)?;
     Ok(eval_values::row_at(values, place))
 }
 
@@ -135,16 +136,20 @@ pub fn read_aim_parts(chart: &[u8], records: &[f64], place: usize) -> Result<Aim
     ensures { outcome_with (aim_answer result) chart.now records.now []
         ≡ outcome (ops.read_detail details.aim_parts place) (state chart.now records.now []) }
 {
-    check_reading(chart, records.len(), calls::RECORD_WIDTH, place)?;
-    Ok(aim_at(chart, records, place))
+    read_aim_parts_as(chart, calls::own_settings(chart)?, records, place)
 }
 
 // Aim's value at a place with its parts, from the records of the table, for the second player.
-pub fn read_aim_parts_as(chart: &[u8], settings: &[u8], records: &[f64], place: usize) -> Result<AimDetail, Refusal>
+pub fn read_aim_parts_as(
+    chart: &[u8],
+    settings: &[u8],
+    records: &[f64],
+    place: usize,
+) -> Result<AimDetail, Refusal>
     ensures { outcome_with (aim_answer result) chart.now records.now []
         ≡ outcome_as settings.now (ops.read_detail details.aim_parts place) (state chart.now records.now []) }
 {
-    check_reading_as(chart, settings, records.len(), calls::RECORD_WIDTH, place)?;
+    check_reading(chart, settings, records.len(), calls::RECORD_WIDTH, place)?;
     Ok(aim_at(chart, records, place))
 }
 
@@ -162,17 +167,20 @@ pub fn read_rhythm(chart: &[u8], records: &[f64], place: usize) -> Result<Counte
     ensures { outcome_with (rhythm_answer result) chart.now records.now []
         ≡ outcome (ops.read_detail details.rhythm place) (state chart.now records.now []) }
 {
-    check_reading(chart, records.len(), calls::RECORD_WIDTH, place)?;
-    let set = chart_opening::settings_at(chart, calls::SETTINGS_AT);
-    Ok(rhythm_at(chart, set, records, place))
+    read_rhythm_as(chart, calls::own_settings(chart)?, records, place)
 }
 
 // The rhythm value of a place, and how often an island was compared with a kept one for it, from the records of the table, for the second player.
-pub fn read_rhythm_as(chart: &[u8], settings: &[u8], records: &[f64], place: usize) -> Result<Counted, Refusal>
+pub fn read_rhythm_as(
+    chart: &[u8],
+    settings: &[u8],
+    records: &[f64],
+    place: usize,
+) -> Result<Counted, Refusal>
     ensures { outcome_with (rhythm_answer result) chart.now records.now []
         ≡ outcome_as settings.now (ops.read_detail details.rhythm place) (state chart.now records.now []) }
 {
-    check_reading_as(chart, settings, records.len(), calls::RECORD_WIDTH, place)?;
+    check_reading(chart, settings, records.len(), calls::RECORD_WIDTH, place)?;
     let set = chart_opening::settings_at(settings, 0);
     Ok(rhythm_at(chart, set, records, place))
 }

@@ -23,14 +23,14 @@ returns-then-numbers-width c =
     let a = c.args in
     simp (lt-ltb _ _ (few a.numbers a.width a.n c.requires.1 c.if-numbers-width.true))
 
-pub returns-then-place-n : goal.returns-then-place-n
+pub returns-then-not-place-n : goal.returns-then-not-place-n
 unfolding first_of row_conditions
-returns-then-place-n c =
+returns-then-not-place-n c =
     let a = c.args in
-    simp (le-ltb _ _ (enough a.numbers a.width a.n c.requires.1 c.if-numbers-width.false), c.if-place-n.true)
+    simp (le-ltb _ _ (enough a.numbers a.width a.n c.requires.1 c.if-numbers-width.false), c.if-not-place-n.true)
 
 pub returns : goal.returns
 unfolding first_of row_conditions
 returns c =
     let a = c.args in
-    simp (le-ltb _ _ (enough a.numbers a.width a.n c.requires.1 c.if-numbers-width.false), c.if-place-n.false)
+    simp (le-ltb _ _ (enough a.numbers a.width a.n c.requires.1 c.if-numbers-width.false), c.if-not-place-n.false)
