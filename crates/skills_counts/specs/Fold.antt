@@ -1,32 +1,17 @@
--- What the code's one walk gives: strains joined to a number in list order. Definitions only.
-use Rattle.std.specs.Prelude.{ℕ, ◌-◌, Bool, List, [], ◌∷◌, Float}
-use Rattle.num_floats.specs.Numbers.{◌⊕◌, ◌⊖◌, ◌⊘◌, zero64}
-use Rattle.num_floats.specs.Compare.{max_of}
+-- What the code's one walk goes over: the strains of a skill at some of the objects. Definitions only.
+use Rattle.std.specs.Prelude.{ℕ, ◌-◌, Bool, List, Float}
+use Rattle.num_floats.specs.Numbers.{◌⊖◌, ◌⊘◌, zero64}
 use Rattle.chart_fields.specs.Objects.{fields_of}
 use Rattle.chart_fields.specs.declared.Layout.{Layout}
 use Rattle.num_tables.specs.Parts.{row}
 use Rattle.skills.specs.declared.Skill.{Skill}
 use Rattle.skills.specs.Strains.{strain_next, joined, strain_at}
 use Rattle.skills.specs.Chart.{delta_at}
-use Rattle.skills_counts.specs.Lists.{weight, slider_weight, share, total_max}
 use Rattle.skills_counts.specs.Counts.{list_from, every}
 use Rattle.skills_counts.specs.Chart.{slider_at}
-use Rattle.skills_counts.specs.declared.fold.Joining.{Joining}
-use Rattle.skills_counts.specs.declared.fold.Joining.TheVariants.{Weight, SliderWeight, Share, Max, TotalMax}
 use Rattle.skills_counts.specs.declared.fold.Objects.{Objects}
 use Rattle.skills_counts.specs.declared.fold.Objects.TheVariants.{All, Sliders}
 use Rattle.skills_counts.specs.declared.fold.Place.{Place}
-
-unfoldable pub join_of : Joining → Float → Float → Float
-join_of (Weight top) to strain = to ⊕ weight strain top
-join_of (SliderWeight top) to strain = to ⊕ slider_weight strain top
-join_of (Share largest) to strain = to ⊕ share strain largest
-join_of Max to strain = max_of to strain
-join_of TotalMax to strain = total_max to strain
-
-unfoldable pub folded : Joining → Float → List Float → Float
-folded how to [] = to
-folded how to (x ∷ xs) = folded how (join_of how to x) xs
 
 module _ (s : List ℕ) (lay : Layout) where
   unfoldable pub keeps_of : Objects → ℕ → Bool

@@ -4,7 +4,7 @@ ghost use Rattle.skills.specs.Chart.{Readable};
 ghost use Rattle.skills_counts.specs.Lists as Lists;
 ghost use Rattle.skills_counts.specs.Chart.{slider_strains};
 
-use crate::fold::{Joining, Objects, fold};
+use crate::fold::{Objects, fold};
 use chart_fields::Layout;
 use skills::Skill;
 
@@ -21,11 +21,19 @@ pub fn get_difficult_sliders(chart: &[u8], lay: Layout, clock: f64, values: &[f6
     ensures { result ≡ Lists.get_difficult_sliders (slider_strains chart.now lay clock values.now Skill.Aim) }
 {
     let sliders = Objects::Sliders;
-    let how = Joining::Max;
-    let max = fold(chart, lay, clock, values, Skill::Aim, sliders, how, 0.0);
+    let max = fold(
+        chart,
+        lay,
+        clock,
+        values,
+        Skill::Aim,
+        sliders,
+        0.0,
+        num_floats::max,
+    );
     if num_util::float_ext::eq(max, 0.0) {
         return 0.0;
     }
-    let how = Joining::Share(max);
-    fold(chart, lay, clock, values, Skill::Aim, sliders, how, 0.0)
+    let add = |to: f64, strain| to + share(strain, max);
+    fold(chart, lay, clock, values, Skill::Aim, sliders, 0.0, add)
 }

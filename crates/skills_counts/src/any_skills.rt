@@ -4,7 +4,7 @@ ghost use Rattle.skills.specs.Chart.{Readable};
 ghost use Rattle.skills_counts.specs.Lists as Lists;
 ghost use Rattle.skills_counts.specs.Chart.{object_strains};
 
-use crate::fold::{Joining, Objects, fold};
+use crate::fold::{Objects, fold};
 use chart_fields::Layout;
 use skills::Skill;
 
@@ -28,14 +28,13 @@ pub fn count_top_weighted_strains(
     ensures { result
         ≡ Lists.count_top_weighted_strains (object_strains chart.now lay clock values.now skill) difficulty_value }
 {
-    let n = lay.n;
-    if n < 2 {
+    if lay.n < 2 {
         return 0.0;
     }
     let top = difficulty_value / 10.0;
     if num_util::float_ext::eq(top, 0.0) {
-        return (n - 1) as u32 as f64;
+        return (lay.n - 1) as u32 as f64;
     }
-    let how = Joining::Weight(top);
-    fold(chart, lay, clock, values, skill, Objects::All, how, 0.0)
+    let add = |to: f64, strain| to + weight(strain, top);
+    fold(chart, lay, clock, values, skill, Objects::All, 0.0, add)
 }

@@ -1,28 +1,20 @@
 // A number that the strains of a skill are joined to, one after the other in place order: the sums and the largest strains of the Rust's iterators.
-ghost use Rattle.std.specs.Prelude.{◌≡◌, cond, ◌-◌, ◌≤◌, ◌<◌};
+ghost use Rattle.std.specs.Prelude.{◌≡◌, ◌-◌, ◌≤◌, ◌<◌};
+ghost use Rattle.std.specs.List.{FoldsTo};
 ghost use Rattle.chart_fields.specs.Objects.{Holds};
 ghost use Rattle.skills.specs.Chart.{Readable};
 ghost use Rattle.skills_counts.specs.Chart.{slider_at};
-ghost use Rattle.skills_counts.specs.Fold.{join_of, folded, keeps_of, place_zero, place_next, strain_of, strains_of};
+ghost use Rattle.skills_counts.specs.Fold.{keeps_of, place_zero, place_next, strain_of, strains_of};
 
 use chart_fields::Layout;
 use skills::Skill;
 
 // The objects whose strains are joined.
+// Kept as an enum: a closure over places is no plainer, as it would require that the chart holds each place and promise `slider_at` of it.
 #[derive(Clone, Copy)]
 pub enum Objects {
     All,
     Sliders,
-}
-
-// By what a strain is joined: its weight for a top strain is added, a slider's weight, its share of a largest strain; or it is the larger of the two.
-#[derive(Clone, Copy)]
-pub enum Joining {
-    Weight(f64),
-    SliderWeight(f64),
-    Share(f64),
-    Max,
-    TotalMax,
 }
 
 // What the strain of a place needs from the place before, and the strain: the start as the chart has it and the decaying strain.
@@ -33,26 +25,12 @@ pub struct Place {
     pub strain: f64,
 }
 
-// The number with a strain joined to it.
-fn join(how: Joining, to: f64, strain: f64) -> f64
-    ensures { result ≡ join_of how to strain }
-{
-    match how {
-        Joining::Weight(top) => to + crate::any_skills::weight(strain, top),
-        Joining::SliderWeight(top) => to + crate::strain::weight(strain, top),
-        Joining::Share(max) => to + crate::aim::share(strain, max),
-        Joining::Max => num_floats::max(to, strain),
-        Joining::TotalMax => crate::speed::total_max(to, strain),
-    }
-}
-
 // Whether the object at place j is a slider.
 fn is_slider(chart: &[u8], lay: Layout, j: usize) -> bool
     requires { Holds chart.now lay × (j < lay.n) }
     ensures { result ≡ slider_at chart.now lay j }
 {
-    let f = chart_fields::fields_of(chart, lay, j);
-    f.kind == chart_fields::SLIDER
+    chart_fields::fields_of(chart, lay, j).kind == chart_fields::SLIDER
 }
 
 // Whether the object at place j is one of these.
@@ -64,16 +42,6 @@ fn keeps(chart: &[u8], lay: Layout, of: Objects, j: usize) -> bool
         Objects::All => true,
         Objects::Sliders => is_slider(chart, lay, j),
     }
-}
-
-// The number with a strain joined to it, if it is kept.
-fn join_if(kept: bool, how: Joining, to: f64, strain: f64) -> f64
-    ensures { result ≡ cond kept (join_of how to strain) to }
-{
-    if kept {
-        return join(how, to, strain);
-    }
-    to
 }
 
 // Before place 1.
@@ -122,31 +90,31 @@ pub fn first_strain(chart: &[u8], lay: Layout, clock: f64, values: &[f64], skill
     first.strain
 }
 
-// The strains of a skill at these objects, from place 1 on, joined to `from`.
-pub fn fold(
+// The strains of a skill at these objects, from place 1 on, joined to `from` one after the other.
+pub fn fold<F: Fn(f64, f64) -> f64>(
     chart: &[u8],
     lay: Layout,
     clock: f64,
     values: &[f64],
     skill: Skill,
     of: Objects,
-    how: Joining,
     from: f64,
+    join: F,
 ) -> f64
-    requires { Readable chart.now lay values.now }
-    ensures { result ≡ folded how from (strains_of chart.now lay clock values.now of skill) }
+    requires readable { Readable chart.now lay values.now }
+    requires joins { F.IsAlwaysCallable join }
+    ensures { FoldsTo (λ to strain r. F.post join to strain r) from (strains_of chart.now lay clock values.now of skill) result }
 {
-    let n = lay.n;
     let mut to = from;
-    if n < 2 {
+    if lay.n < 2 {
         return to;
     }
     let mut place = place_zero(chart, lay);
-    let mut j = 1;
-    while j < n {
+    for j in 1..lay.n {
         place = next(chart, lay, clock, values, skill, place, j);
-        to = join_if(keeps(chart, lay, of, j), how, to, place.strain);
-        j += 1;
+        if keeps(chart, lay, of, j) {
+            to = join(to, place.strain);
+        }
     }
     to
 }

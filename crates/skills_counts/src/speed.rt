@@ -4,7 +4,7 @@ ghost use Rattle.skills.specs.Chart.{Readable};
 ghost use Rattle.skills_counts.specs.Lists as Lists;
 ghost use Rattle.skills_counts.specs.Chart.{object_strains};
 
-use crate::fold::{Joining, Objects, fold};
+use crate::fold::{Objects, fold};
 use chart_fields::Layout;
 use num_floats::Binary;
 use skills::Skill;
@@ -37,11 +37,19 @@ pub fn relevant_note_count(chart: &[u8], lay: Layout, clock: f64, values: &[f64]
     }
     let all = Objects::All;
     let first = crate::fold::first_strain(chart, lay, clock, values, Skill::Speed);
-    let how = Joining::TotalMax;
-    let max = fold(chart, lay, clock, values, Skill::Speed, all, how, first);
+    let max = fold(
+        chart,
+        lay,
+        clock,
+        values,
+        Skill::Speed,
+        all,
+        first,
+        total_max,
+    );
     if max > 0.0 {
-        let how = Joining::Share(max);
-        return fold(chart, lay, clock, values, Skill::Speed, all, how, 0.0);
+        let add = |to: f64, strain| to + crate::aim::share(strain, max);
+        return fold(chart, lay, clock, values, Skill::Speed, all, 0.0, add);
     }
     0.0
 }

@@ -4,7 +4,7 @@ ghost use Rattle.skills.specs.Chart.{Readable};
 ghost use Rattle.skills_counts.specs.Lists as Lists;
 ghost use Rattle.skills_counts.specs.Chart.{slider_strains};
 
-use crate::fold::{Joining, Objects, fold};
+use crate::fold::{Objects, fold};
 use chart_fields::Layout;
 use skills::Skill;
 
@@ -32,6 +32,6 @@ pub fn count_top_weighted_sliders(
     if num_util::float_ext::eq(top, 0.0) {
         return 0.0;
     }
-    let how = Joining::SliderWeight(top);
-    fold(chart, lay, clock, values, skill, Objects::Sliders, how, 0.0)
+    let add = |to: f64, strain| to + weight(strain, top);
+    fold(chart, lay, clock, values, skill, Objects::Sliders, 0.0, add)
 }

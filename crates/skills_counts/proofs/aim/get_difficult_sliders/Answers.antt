@@ -1,15 +1,15 @@
 -- `skills_counts::aim::get_difficult_sliders` meets its contract. Assumes nothing.
-use mathlib.Core.Path.{◌≡◌, sym, ap, ◌∙◌}
-use mathlib.Core.List.{List}
-use lib.Ieee.{Float}
+use Rattle.std.proofs.Common.{◌≡◌, List, sym, ap, ◌∙◌, rules}
+use Rattle.std.specs.Prelude.{Float}
+use Rattle.std.specs.List.{fold}
+use Rattle.num_floats.specs.Compare.{max_of}
 use Rattle.num_floats.specs.Numbers.{zero64}
 use Rattle.num_util.specs.FloatExt.{eq}
 use Rattle.skills.specs.declared.Skill.TheVariants.{Aim}
-use Rattle.skills_counts.specs.declared.fold.Joining.TheVariants.{Share}
-use Rattle.skills_counts.specs.Lists.{max_from}
+use Rattle.skills_counts.specs.Lists.{max_from, share}
 use Rattle.skills_counts.specs.Chart.{slider_strains}
-use Rattle.skills_counts.specs.Fold.{folded, keeps_of}
-use Rattle.skills_counts.proofs.Lists.{largest, none_difficult, difficult_shares}
+use Rattle.skills_counts.specs.Fold.{keeps_of}
+use Rattle.skills_counts.proofs.Lists.{adding, folds_is, largest, none_difficult, difficult_shares}
 use Rattle.skills_counts.proofs.aim.get_difficult_sliders.Goals as goal
 
 pub returns-then-eq : goal.returns-then-eq
@@ -17,7 +17,7 @@ unfolding keeps_of
 returns-then-eq c =
     let a = c.args in
     let l : List Float = slider_strains a.chart.now a.lay a.clock a.values.now Aim in
-    let m : c.fold-max.result ≡ max_from zero64 l = c.fold-max.ensures ∙ largest zero64 l in
+    let m : c.fold-max.result ≡ max_from zero64 l = folds_is _ max_of (λ to x r h. search (rules, h)) zero64 l _ c.fold-max.ensures ∙ largest zero64 l in
     sym (none_difficult l (ap (λ (x : Float). eq x zero64) (sym m) ∙ sym c.eq.ensures ∙ c.if-eq.true))
 
 pub returns : goal.returns
@@ -25,7 +25,7 @@ unfolding keeps_of
 returns c =
     let a = c.args in
     let l : List Float = slider_strains a.chart.now a.lay a.clock a.values.now Aim in
-    let m : c.fold-max.result ≡ max_from zero64 l = c.fold-max.ensures ∙ largest zero64 l in
-    c.fold.ensures
-    ∙ ap (λ (x : Float). folded (Share x) zero64 l) m
+    let m : c.fold-max.result ≡ max_from zero64 l = folds_is _ max_of (λ to x r h. search (rules, h)) zero64 l _ c.fold-max.ensures ∙ largest zero64 l in
+    folds_is _ (adding (λ s. share s c.fold-max.result)) (λ to x r h. search (rules, h)) zero64 l _ c.fold.ensures
+    ∙ ap (λ (x : Float). fold (adding (λ s. share s x)) zero64 l) m
     ∙ sym (difficult_shares l (ap (λ (x : Float). eq x zero64) (sym m) ∙ sym c.eq.ensures ∙ c.if-eq.false))
