@@ -49,12 +49,9 @@ fn last_tick(slider: &OsuSlider) -> Option<usize>
     ensures { let last = last_tick (nested_list slider.now.chart.now slider.now.lay slider.now.runs) in
         MatchOption result (last ≡ 0) (λ k. (last ≡ k + 1) × (k < slider.now.runs.nested_count)) }
 {
-    for k in (0..slider.runs.nested_count).rev() {
-        if is_tick(slider, k) {
-            return Some(k);
-        }
-    }
-    None
+    (0..slider.runs.nested_count)
+        .rev()
+        .find(|&k| is_tick(slider, k))
 }
 
 // When tracking ends: 36 ms before the end, or half way where that is later.

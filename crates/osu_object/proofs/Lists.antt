@@ -12,7 +12,7 @@ use Rattle.std.specs.Prelude.{Option, Some, None}
 use Rattle.std.specs.List.{range_with_len, filter}
 use Rattle.chart_fields.specs.Search.{first_below}
 use Rattle.chart_fields.proofs.Search.{first_none, first_is}
-use Rattle.osu_object.specs.Osu.{list_from, count_below, last_below}
+use Rattle.osu_object.specs.Osu.{list_from, count_below}
 
 pub length_list : {A : Type 0} (f : ℕ → A) (i n : ℕ) → length (list_from f i n) ≡ n
 unfolding list_from
@@ -27,26 +27,6 @@ list_at f d i (suc n) (suc k) h =
     let e : suc i + k ≡ i + suc k = omega arith in
     list_at f d (suc i) n k (omega arith) ∙ ap f e
 
--- ---- a count of no place, and one place more of a search from the end
-
-count_none : (test : ℕ → Bool) → count_below test 0 ≡ 0
-unfolding count_below
-count_none test = refl
-
-pub last_hit : (test : ℕ → Bool) (k : ℕ) → 0 < k → test (k - 1) ≡ true → last_below test k ≡ k
-unfolding last_below
-last_hit test zero h e = absurd (omega arith)
-last_hit test (suc k) h e = let z : suc k - 1 ≡ k = omega arith in let t : test k ≡ true = rw z at e in rw (t, last_below)
-
-pub last_miss : (test : ℕ → Bool) (k : ℕ) → 0 < k → test (k - 1) ≡ false → last_below test (k - 1) ≡ last_below test k
-unfolding last_below
-last_miss test zero h e = absurd (omega arith)
-last_miss test (suc k) h e = let z : suc k - 1 ≡ k = omega arith in let t : test k ≡ false = rw z at e in rw (z, t, last_below)
-
-pub last_none : (test : ℕ → Bool) → last_below test 0 ≡ 0
-unfolding last_below
-last_none test = refl
-
 -- ---- what `find` answers over places from 0 on
 
 pub segment_at : (bad : ℕ → Bool) (n count : ℕ) (r : Option ℕ) → n ≡ count - 1 → 0 < count
@@ -56,6 +36,10 @@ segment_at bad n count None e h f = (sym (first_none bad n (λ k l. f k (omega a
 segment_at bad n count (Some i) e h f = (sym (first_is bad n i f.1 (λ k l. f.3 k (omega arith) l) f.2), omega arith)
 
 -- ---- a count over places from 0 on
+
+count_none : (test : ℕ → Bool) → count_below test 0 ≡ 0
+unfolding count_below
+count_none test = refl
 
 count_next : (test : ℕ → Bool) (a : ℕ) → count_below test (a + 1) ≡ cond (test a) 1 0 + count_below test a
 unfolding count_below

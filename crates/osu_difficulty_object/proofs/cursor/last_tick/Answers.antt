@@ -1,22 +1,22 @@
 -- `osu_difficulty_object::cursor::last_tick` meets its contract. Assumes nothing.
-use Prim.Native.Nat.{◌+◌, ◌-◌}
-use native.Mathlib.Omega.{arith}
-use mathlib.Core.Path.{◌≡◌, sym, ◌∙◌}
-use Rattle.osu_object.proofs.Lists.{length_list, last_hit, last_miss, last_none}
+use borrow.Author.Rules.{rules}
+use borrow.Author.Tests.{tests}
+use mathlib.Core.Path.{◌≡◌, sym, subst, ◌∙◌}
+use Rattle.std.specs.List.{find}
+use Rattle.std.proofs.lemmas.Iterator.Search.{find_from_yields_List}
+use Rattle.std.proofs.lemmas.Iterator.Adapters.{option_map_id}
+use Rattle.osu_object.specs.Osu.{nested_list, is_tick}
+use Rattle.osu_object.proofs.Lists.{length_list}
 use Rattle.osu_difficulty_object.specs.Cursor.{last_tick}
+use Rattle.osu_difficulty_object.proofs.Backwards.{down, backwards, Last, last_found}
 use Rattle.osu_difficulty_object.proofs.cursor.last_tick.Goals as goal
 
-pub loop-k-init : goal.loop-k-init
-unfolding last_tick
-loop-k-init c = simp length_list
-
-pub returns-then-is_tick : goal.returns-then-is_tick
-returns-then-is_tick c =
-    let z : c.loop-k.k ≡ c.loop-k.k - 1 + 1 = omega arith in
-    (sym c.loop-k.invariant ∙ last_hit _ _ c.loop-k-test.true (sym c.is_tick.ensures ∙ c.if-is_tick.true) ∙ z, omega arith)
-
-pub loop-k-preserved : goal.loop-k-preserved
-loop-k-preserved c = last_miss _ _ c.loop-k-test.true (sym c.is_tick.ensures ∙ c.if-is_tick.false) ∙ c.loop-k.invariant
-
 pub returns : goal.returns
-returns c = let z : c.loop-k.k ≡ 0 = omega arith in sym (rw z at c.loop-k.invariant) ∙ last_none _
+unfolding last_tick
+returns c =
+    let test = is_tick (nested_list c.args.slider.now.chart.now c.args.slider.now.lay c.args.slider.now.runs) in
+    let n = c.args.slider.now.runs.nested_count in
+    let e : c.find.result ≡ find test (down 0 n) =
+    sym (option_map_id c.find.result)
+    ∙ find_from_yields_List test _ _ c.find.result c.find.ensures.ran (backwards n c.rev.ensures.source) (λ x b q k. search (rules, tests)) in
+    simp length_list (subst (Last test n) (sym e) (last_found test n))
