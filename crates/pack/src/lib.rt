@@ -47,7 +47,13 @@ fn check_chart(chart: &[u8], entries: usize, short: bool, finite: bool) -> Resul
 }
 
 // Whether the chart at an offset lies in the pack, would open and be rated.
-fn check_listed(pack: &[u8], at: usize, entries: usize, short: bool, finite: bool) -> Result<(), Refusal>
+fn check_listed(
+    pack: &[u8],
+    at: usize,
+    entries: usize,
+    short: bool,
+    finite: bool,
+) -> Result<(), Refusal>
     ensures { result ≡ listed_check entries short finite pack.now at }
 {
     if !pack_order::inside(pack, at) {
@@ -58,16 +64,17 @@ fn check_listed(pack: &[u8], at: usize, entries: usize, short: bool, finite: boo
 }
 
 // The first listed chart that would not stops it.
-fn check_all(pack: &[u8], list: &[usize], entries: usize, short: bool, finite: bool) -> Result<(), Refusal>
+fn check_all(
+    pack: &[u8],
+    list: &[usize],
+    entries: usize,
+    short: bool,
+    finite: bool,
+) -> Result<(), Refusal>
     ensures { result ≡ first_of (map (listed_check entries short finite pack.now) list.now) }
 {
-    let n = list.len();
-    let mut i = 0;
-    while i < n {
-        match check_listed(pack, list[i], entries, short, finite) {
-            Err(r) => return Err(r),
-            Ok(()) => i += 1,
-        }
+    for at in list {
+        check_listed(pack, *at, entries, short, finite)?;
     }
     Ok(())
 }
@@ -204,12 +211,10 @@ fn rate_all(
     ensures tables { tables records.new values.new
         ≡ tables_after pack.now list.now (tables records.old values.old) }
 {
-    let n = list.len();
-    let mut i = 0;
-    while i < n {
+    for (i, at) in list.iter().enumerate() {
         let k = rate_listed(
             pack,
-            list[i],
+            *at,
             asked,
             records,
             values,
@@ -219,7 +224,6 @@ fn rate_all(
             flashlight,
         );
         put_key(keys, i, k);
-        i += 1;
     }
 }
 

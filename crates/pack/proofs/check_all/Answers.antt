@@ -1,17 +1,27 @@
 -- `pack::check_all` meets its contract. Assumes nothing.
+use Rattle.std.proofs.lemmas.Result.{err_from_is_err_and}
 use Rattle.pack.specs.Pack.{listed_check}
 use mathlib.Core.Path.{sym, ◌∙◌}
 use Rattle.pack.proofs.Checks.{start, next, found, end}
 use Rattle.pack.proofs.check_all.Goals as goal
 
-pub loop-i-init : goal.loop-i-init
-loop-i-init c = let a = c.args in start (listed_check a.entries a.short a.finite a.pack.now) a.list.now
+pub loop-at-init : goal.loop-at-init
+loop-at-init c = let a = c.args in start (listed_check a.entries a.short a.finite a.pack.now) a.list.now
 
-pub returns-in-Err : goal.returns-in-Err
-returns-in-Err c = let a = c.args in found (listed_check a.entries a.short a.finite a.pack.now) a.list.now c.loop-i.invariant c.loop-i-test.true (sym c.check_listed.ensures ∙ c.in-Err.is)
+pub returns-in_err-check_listed : goal.returns-in_err-check_listed
+returns-in_err-check_listed c =
+    let a = c.args in
+    let p = err_from_is_err_and c.from_residual.result c.from_residual.ensures.1 in
+    rw (p.1, p.2) (
+    found (listed_check a.entries a.short a.finite a.pack.now) a.list.now c.loop-at.invariant c.loop-at-test.true
+    (sym c.check_listed.ensures ∙ c.in_err-check_listed.was)
+    )
 
-pub loop-i-preserved : goal.loop-i-preserved
-loop-i-preserved c = let a = c.args in next (listed_check a.entries a.short a.finite a.pack.now) a.list.now c.loop-i.invariant c.loop-i-test.true (sym c.check_listed.ensures ∙ c.in-Ok.is)
+pub loop-at-preserved : goal.loop-at-preserved
+loop-at-preserved c =
+    let a = c.args in
+    next (listed_check a.entries a.short a.finite a.pack.now) a.list.now c.loop-at.invariant c.loop-at-test.true
+    (sym c.check_listed.ensures ∙ c.in_ok-check_listed.was)
 
 pub returns : goal.returns
-returns c = let a = c.args in end (listed_check a.entries a.short a.finite a.pack.now) a.list.now c.loop-i.invariant c.loop-i-test.false
+returns c = let a = c.args in end (listed_check a.entries a.short a.finite a.pack.now) a.list.now c.loop-at.invariant c.loop-at-test.false

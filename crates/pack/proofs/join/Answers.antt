@@ -15,13 +15,13 @@ unfolding rank_answer
 returns-in_err-check c =
     let p = err_from_is_err_and c.from_residual.result c.from_residual.ensures.1 in
     rw (p.1, p.2) (
-      let a = c.args in
-      let e = sym c.in_err-check.was ∙ c.check.ensures.answer in
-      record {
-        answer = e;
-        leaves = refused_leaves a.asked a.pack.now a.list.now (tables a.records.now a.values.now) (scratch_of a.aim.now a.aim_no_sliders.now a.speed.now a.flashlight.now) e;
-        pack = refl;
-      }
+    let a = c.args in
+    let e = sym c.in_err-check.was ∙ c.check.ensures.answer in
+    record {
+      answer = e;
+      leaves = refused_leaves a.asked a.pack.now a.list.now (tables a.records.now a.values.now) (scratch_of a.aim.now a.aim_no_sliders.now a.speed.now a.flashlight.now) e;
+      pack = refl;
+    }
     )
 
 pub returns : goal.returns

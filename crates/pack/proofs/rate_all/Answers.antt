@@ -28,12 +28,6 @@ put_key-requires c =
     let (g, k, r, v, x, y, z, w) = c.loop-i.invariant in
     omega (arith, g.count, k, c.loop-i-test.true, c.requires.list_len_bound.1)
 
-pub overflow_add-i : goal.overflow_add-i
-overflow_add-i c =
-    let t = c.loop-i-test.true in
-    let g = c.loop-i.invariant.0.count in
-    omega (arith, t, g, c.requires.list_len_bound.0)
-
 pub loop-i-preserved : goal.loop-i-preserved
 loop-i-preserved c =
     let a = c.args in
