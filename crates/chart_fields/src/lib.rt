@@ -1,11 +1,12 @@
 // A chart's objects by a layout, and conditions 3 and 5 on them (document 01, "The chart" and "What each call answers").
 #![tactic(auto)]
 
-ghost use Rattle.std.specs.Prelude.{◌≡◌, ◌+◌, ◌<◌, ◌≤◌, length};
+ghost use Rattle.std.specs.Prelude.{◌≡◌, ◌+◌, ◌<◌, ◌≤◌, eqb, length};
 ghost use Rattle.chart_fields.specs.Limits.{object_size};
-ghost use Rattle.chart_fields.specs.Search.{first_below};
+ghost use Rattle.chart_fields.specs.Kinds.{Named};
+ghost use Rattle.chart_fields.specs.Search.{place_below};
 ghost use Rattle.chart_fields.specs.Objects.{Holds, stated_length, fields_at, fields_of, time_ok, coordinate_ok, stack_ok};
-ghost use Rattle.chart_fields.specs.Objects.{count_ok, plain_ok, slider_ok, kind_ok, fields_ok, bad_fields, falls};
+ghost use Rattle.chart_fields.specs.Objects.{count_ok, plain_ok, slider_ok, kind_ok, fields_ok, bad_fields, falls, slider};
 
 // The bytes of a chart's header, of an object, and of one with a stated length.
 pub const HEADER_SIZE: usize = 80;
@@ -13,13 +14,6 @@ pub const HEADER_SIZE: usize = 80;
 pub const OBJECT_SIZE: usize = 56;
 
 pub const STATED_SIZE: usize = 64;
-
-// The kinds of objects.
-pub const CIRCLE: u32 = 0;
-
-pub const SLIDER: u32 = 1;
-
-pub const SPINNER: u32 = 2;
 
 // The latest time, in milliseconds.
 const LATEST_TIME: f64 = 10_000_000.0;
@@ -37,6 +31,43 @@ const SHORTEST_SLIDER: f64 = 0.001;
 
 // The length of a path, at most.
 pub const LONGEST_PATH: f64 = 1_000_000.0;
+
+// The bytes of a nested entry, and of a point.
+pub const NESTED_SIZE: usize = 24;
+
+pub const POINT_SIZE: usize = 16;
+
+// Objects of a chart, and its nested entries and points each, at most.
+pub const MOST_OBJECTS: usize = 16_384;
+
+pub const MOST_ENTRIES: usize = 65_536;
+
+// The kinds of objects, by the chart's numbers.
+#[derive(Clone, Copy, Debug, PartialEq, Eq)]
+pub enum ObjectKind {
+    Circle,
+    Slider,
+    Spinner,
+}
+
+// A number that names no kind.
+#[derive(Clone, Copy, Debug, PartialEq, Eq)]
+pub struct UnknownKind(pub u32);
+
+impl TryFrom<u32> for ObjectKind {
+    type Error = UnknownKind;
+
+    ghost try_from_gives = { Named };
+
+    fn try_from(number: u32) -> Result<Self, UnknownKind> {
+        match number {
+            0 => Ok(ObjectKind::Circle),
+            1 => Ok(ObjectKind::Slider),
+            2 => Ok(ObjectKind::Spinner),
+            _ => Err(UnknownKind(number)),
+        }
+    }
+}
 
 // The counts of a chart, an object's size in bytes, and the offsets of the two tables behind the objects: read from the header once.
 #[derive(Clone, Copy)]
@@ -67,18 +98,30 @@ pub struct Fields {
     pub length: f64,
 }
 
+impl Fields {
+    // Whether the object is a slider.
+    pub fn is_slider(self) -> bool
+        ensures { result ≡ eqb self.kind slider }
+    {
+        self.kind == ObjectKind::Slider as u32
+    }
+}
+
 // The stated length of the object of a size at an offset, 0 where objects of that size have none.
+#[tactic(auto, unfolding(crate::specs::Objects::stated_length))]
 fn stated_length(s: &[u8], at: usize, size: usize) -> f64
     requires { at + size ≤ length s.now }
     ensures { result ≡ stated_length s.now at size }
 {
     if size == STATED_SIZE {
-        return num_floats::f64_at(s, at + OBJECT_SIZE);
+        num_floats::f64_at(s, at + OBJECT_SIZE)
+    } else {
+        0.0
     }
-    0.0
 }
 
 // The fields of the object of a size at an offset.
+#[tactic(auto, unfolding(crate::specs::Objects::fields_at))]
 pub fn fields_at(s: &[u8], at: usize, size: usize) -> Fields
     requires { (object_size ≤ size) × (at + size ≤ length s.now) }
     ensures { result ≡ fields_at s.now at size }
@@ -101,6 +144,7 @@ pub fn fields_at(s: &[u8], at: usize, size: usize) -> Fields
 }
 
 // The fields of the object at a place.
+#[tactic(auto, using(crate::specs::Place::place_within), unfolding(crate::specs::Objects::fields_of))]
 pub fn fields_of(chart: &[u8], lay: Layout, i: usize) -> Fields
     requires { Holds chart.now lay × (i < lay.n) }
     ensures { result ≡ fields_of chart.now lay i }
@@ -163,14 +207,16 @@ fn slider_ok(f: Fields) -> bool
 fn kind_ok(f: Fields) -> bool
     ensures { result ≡ kind_ok f }
 {
-    if f.kind == SLIDER {
-        return slider_ok(f);
+    match ObjectKind::try_from(f.kind) {
+        Ok(ObjectKind::Circle) => (f.end == f.start) & plain_ok(f),
+        Ok(ObjectKind::Slider) => slider_ok(f),
+        Ok(ObjectKind::Spinner) => (f.start <= f.end) & plain_ok(f),
+        Err(_) => false,
     }
-    ((f.kind == CIRCLE) & (f.end == f.start) | (f.kind == SPINNER) & (f.start <= f.end))
-        & plain_ok(f)
 }
 
 // Whether an object's own fields are right: condition 3 is that they are not.
+#[tactic(auto, unfolding(crate::specs::Objects::fields_ok))]
 pub fn fields_ok(f: Fields) -> bool
     ensures { result ≡ fields_ok f }
 {
@@ -184,6 +230,7 @@ pub fn fields_ok(f: Fields) -> bool
 }
 
 // Condition 3 at a place.
+#[tactic(auto, unfolding(crate::specs::Objects::bad_fields))]
 fn bad_fields(chart: &[u8], lay: Layout, i: usize) -> bool
     requires { Holds chart.now lay × (i < lay.n) }
     ensures { result ≡ bad_fields chart.now lay i }
@@ -191,47 +238,27 @@ fn bad_fields(chart: &[u8], lay: Layout, i: usize) -> bool
     !fields_ok(fields_of(chart, lay, i))
 }
 
-// The lowest place that breaks condition 3, or n.
-pub fn first_bad_fields(chart: &[u8], lay: Layout) -> usize
+// The lowest place that breaks condition 3.
+pub fn first_bad_fields(chart: &[u8], lay: Layout) -> Option<usize>
     requires { Holds chart.now lay }
-    ensures { result ≡ first_below (bad_fields chart.now lay) lay.n }
+    ensures { result ≡ place_below (bad_fields chart.now lay) lay.n }
 {
-    let n = lay.n;
-    let mut i = 0;
-    while i < n {
-        if bad_fields(chart, lay, i) {
-            return i;
-        }
-        i += 1;
-    }
-    i
+    (0..lay.n).find(|&i| bad_fields(chart, lay, i))
 }
 
 // Condition 5 at the place of the later object: its start is before its predecessor's.
+#[tactic(auto, unfolding(crate::specs::Objects::falls))]
 pub fn falls_at(chart: &[u8], lay: Layout, i: usize) -> bool
     requires { Holds chart.now lay × (i < lay.n) }
     ensures { result ≡ falls chart.now lay i }
 {
-    if i == 0 {
-        return false;
-    }
-    let later = fields_of(chart, lay, i);
-    let earlier = fields_of(chart, lay, i - 1);
-    later.start < earlier.start
+    0 < i && fields_of(chart, lay, i).start < fields_of(chart, lay, i - 1).start
 }
 
-// The lowest place that breaks condition 5, or n.
-pub fn first_fall(chart: &[u8], lay: Layout) -> usize
+// The lowest place that breaks condition 5.
+pub fn first_fall(chart: &[u8], lay: Layout) -> Option<usize>
     requires { Holds chart.now lay }
-    ensures { result ≡ first_below (falls chart.now lay) lay.n }
+    ensures { result ≡ place_below (falls chart.now lay) lay.n }
 {
-    let n = lay.n;
-    let mut i = 0;
-    while i < n {
-        if falls_at(chart, lay, i) {
-            return i;
-        }
-        i += 1;
-    }
-    i
+    (0..lay.n).find(|&i| falls_at(chart, lay, i))
 }

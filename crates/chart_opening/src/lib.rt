@@ -1,7 +1,7 @@
 // A chart's header and settings, and the conditions of opening in their order (document 01, "The chart" and "What each call answers").
 #![tactic(auto)]
 
-ghost use Rattle.std.specs.Prelude.{◌≡◌, ◌&&◌, ◌+◌, ◌*◌, ◌^◌, ◌<◌, ◌≤◌, leb, length};
+ghost use Rattle.std.specs.Prelude.{◌≡◌, ◌&&◌, ◌+◌, ◌*◌, ◌^◌, ◌<◌, ◌≤◌, leb, ltb, length};
 ghost use Rattle.chart_fields.specs.Limits.{header_size, point_size};
 ghost use Rattle.chart_fields.specs.Objects.{Holds};
 ghost use Rattle.chart_fields.specs.Search.{first_below};
@@ -11,6 +11,9 @@ ghost use Rattle.chart_opening.specs.Header.{settings_at, settings_ok, far_apart
 ghost use Rattle.chart_opening.specs.Conditions.{refusal_number, refusal_place, first_of, at_fault, body_conditions, under_conditions, open_verdict};
 
 use chart_fields::Layout;
+
+// Where a header's settings begin.
+pub const SETTINGS_START: usize = 32;
 
 // A chart's settings, the flags taken apart.
 #[derive(Clone, Copy)]
@@ -64,28 +67,22 @@ impl Refusal {
         ensures { result ≡ refusal_place self }
     {
         match self {
-            Refusal::Object(i) => i,
-            Refusal::Entries(i) => i,
-            Refusal::Order(i) => i,
-            Refusal::Header => 0,
-            Refusal::Setting => 0,
-            Refusal::Length => 0,
-            Refusal::Table => 0,
-            Refusal::Place => 0,
-            Refusal::Room => 0,
-            Refusal::NotFinite => 0,
+            Refusal::Object(i) | Refusal::Entries(i) | Refusal::Order(i) => i,
+            _ => 0,
         }
     }
 }
 
 // The bytes of an object by the word at 28.
+#[tactic(auto, unfolding(crate::specs::Header::size_for))]
 fn size_for(format: u32) -> usize
     ensures { result ≡ size_for format }
 {
     if format == 1 {
-        return chart_fields::STATED_SIZE;
+        chart_fields::STATED_SIZE
+    } else {
+        chart_fields::OBJECT_SIZE
     }
-    chart_fields::OBJECT_SIZE
 }
 
 // The layout that the counts of a header and its word at 28 ask for; whether the rest of the header agrees is condition 1.
@@ -93,33 +90,36 @@ pub fn layout_of(s: &[u8]) -> Layout
     requires { header_size ≤ length s.now }
     ensures { result ≡ layout_of s.now }
 {
+    // Not by count_at: that these fit a u32 is what keeps the offsets small.
     let n = num_floats::u32_at(s, 0) as usize;
     let nested = num_floats::u32_at(s, 4) as usize;
-    let points = num_floats::u32_at(s, 8) as usize;
-    let size = size_for(num_floats::u32_at(s, 28));
-    let nested_at = chart_fields::HEADER_SIZE + size * n;
+    let points = num_floats::count_at(s, 8);
+    let object_size = size_for(num_floats::u32_at(s, 28));
+    let nested_at = chart_fields::HEADER_SIZE + object_size * n;
     Layout {
-        n: n,
-        nested: nested,
-        points: points,
-        object_size: size,
-        nested_at: nested_at,
-        points_at: nested_at + 24 * nested,
+        n,
+        nested,
+        points,
+        object_size,
+        nested_at,
+        points_at: nested_at + chart_fields::NESTED_SIZE * nested,
     }
 }
 
 // Whether the counts are within their limits, and the word at 28 is 0 or 1.
+#[tactic(auto, unfolding(crate::specs::Header::counts_ok, crate::specs::Header::layout_of))]
 fn counts_ok(s: &[u8]) -> bool
     requires { header_size ≤ length s.now }
     ensures { result ≡ (counts_ok (layout_of s.now) && leb (format_of s.now) 1) }
 {
-    num_floats::count_at(s, 0) <= 16_384
-        && num_floats::count_at(s, 4) <= 65_536
-        && num_floats::count_at(s, 8) <= 65_536
+    num_floats::count_at(s, 0) <= chart_fields::MOST_OBJECTS
+        && num_floats::count_at(s, 4) <= chart_fields::MOST_ENTRIES
+        && num_floats::count_at(s, 8) <= chart_fields::MOST_ENTRIES
         && num_floats::u32_at(s, 28) <= 1
 }
 
 // Whether the header's offsets and length are those of its counts, and the buffer has that length at least.
+#[tactic(auto, unfolding(crate::specs::Header::offsets_ok))]
 fn offsets_ok(s: &[u8], lay: Layout) -> bool
     requires { (header_size ≤ length s.now) × (lay.points_at + point_size * lay.points < 2 ^ 64) }
     ensures { result ≡ offsets_ok s.now lay }
@@ -127,24 +127,20 @@ fn offsets_ok(s: &[u8], lay: Layout) -> bool
     (num_floats::count_at(s, 12) == chart_fields::HEADER_SIZE)
         & (num_floats::count_at(s, 16) == lay.nested_at)
         & (num_floats::count_at(s, 20) == lay.points_at)
-        & (num_floats::count_at(s, 24) == lay.points_at + 16 * lay.points)
+        & (num_floats::count_at(s, 24) == lay.points_at + chart_fields::POINT_SIZE * lay.points)
         & (num_floats::count_at(s, 24) <= s.len())
 }
 
 // Whether the header is right but for its flags.
+#[tactic(auto, unfolding(crate::specs::Header::frame_ok))]
 pub fn frame_ok(s: &[u8]) -> bool
     ensures { result ≡ frame_ok s.now }
 {
-    if s.len() < chart_fields::HEADER_SIZE {
-        return false;
-    }
-    if !counts_ok(s) {
-        return false;
-    }
-    offsets_ok(s, layout_of(s))
+    chart_fields::HEADER_SIZE <= s.len() && counts_ok(s) && offsets_ok(s, layout_of(s))
 }
 
 // Whether the flags' reserved bits are 0.
+#[tactic(auto, unfolding(crate::specs::Header::flags_ok))]
 pub fn flags_ok(flags: u32) -> bool
     ensures { result ≡ flags_ok flags }
 {
@@ -152,16 +148,15 @@ pub fn flags_ok(flags: u32) -> bool
 }
 
 // Whether the header is right: condition 1 is that it is not.
+#[tactic(auto, unfolding(crate::specs::Header::header_ok))]
 pub fn header_ok(s: &[u8]) -> bool
     ensures { result ≡ header_ok s.now }
 {
-    if !frame_ok(s) {
-        return false;
-    }
-    flags_ok(num_floats::u32_at(s, 76))
+    frame_ok(s) && flags_ok(num_floats::u32_at(s, 76))
 }
 
 // The settings at an offset.
+#[tactic(auto, unfolding(crate::specs::Header::settings_at))]
 pub fn settings_at(s: &[u8], at: usize) -> Settings
     requires { at + settings_size ≤ length s.now }
     ensures { result ≡ settings_at s.now at }
@@ -180,6 +175,7 @@ pub fn settings_at(s: &[u8], at: usize) -> Settings
 }
 
 // Whether every setting is in its range: condition 2 is that one is not.
+#[tactic(auto, unfolding(crate::specs::Header::settings_ok))]
 pub fn settings_ok(t: Settings) -> bool
     ensures { result ≡ settings_ok t }
 {
@@ -199,42 +195,37 @@ pub fn far_apart(last: f64, first: f64, clock: f64) -> bool
 }
 
 // Condition 6.
+#[tactic(auto, unfolding(crate::specs::Header::too_long))]
 pub fn too_long(chart: &[u8], lay: Layout, clock: f64) -> bool
     requires { Holds chart.now lay }
     ensures { result ≡ too_long chart.now lay clock }
 {
-    let n = lay.n;
-    if n < 2 {
-        return false;
-    }
-    let last = chart_fields::fields_of(chart, lay, n - 1);
-    let first = chart_fields::fields_of(chart, lay, 1);
-    far_apart(last.start, first.start, clock)
+    2 <= lay.n
+        && far_apart(
+            chart_fields::fields_of(chart, lay, lay.n - 1).start,
+            chart_fields::fields_of(chart, lay, 1).start,
+            clock,
+        )
 }
 
-// The lowest place that breaks condition 3, 4 or 5, or n. A slider's fields are read again with its entries: fields that are lent on
+// Whether a place breaks condition 3, 4 or 5. A slider's fields are read again with its entries: fields that are lent on
 // would be written to memory for every object.
-fn first_fault(chart: &[u8], lay: Layout) -> usize
+fn has_fault(chart: &[u8], lay: Layout) -> bool
     requires { Holds chart.now lay }
-    ensures { result ≡ first_below (at_fault chart.now lay) lay.n }
+    ensures { result ≡ ltb (first_below (at_fault chart.now lay) lay.n) lay.n }
 {
-    let n = lay.n;
     let mut last = 0.0;
-    let mut i = 0;
-    while i < n {
+    for i in 0..lay.n {
         let f = chart_fields::fields_of(chart, lay, i);
         if !chart_fields::fields_ok(f) | (0 < i) & (f.start < last) {
-            return i;
+            return true;
         }
-        if f.kind == chart_fields::SLIDER {
-            if chart_entries::bad_entries(chart, lay, i) {
-                return i;
-            }
+        if f.is_slider() && chart_entries::bad_entries(chart, lay, i) {
+            return true;
         }
         last = f.start;
-        i += 1;
     }
-    i
+    false
 }
 
 // Conditions 3 to 6, each over the whole chart before the next.
@@ -242,17 +233,13 @@ fn check_in_turn(chart: &[u8], lay: Layout, clock: f64) -> Result<(), Refusal>
     requires { Holds chart.now lay }
     ensures { result ≡ first_of (body_conditions chart.now lay clock) }
 {
-    let n = lay.n;
-    let object = chart_fields::first_bad_fields(chart, lay);
-    if object < n {
+    if let Some(object) = chart_fields::first_bad_fields(chart, lay) {
         return Err(Refusal::Object(object));
     }
-    let entries = chart_entries::first_bad_entries(chart, lay);
-    if entries < n {
+    if let Some(entries) = chart_entries::first_bad_entries(chart, lay) {
         return Err(Refusal::Entries(entries));
     }
-    let order = chart_fields::first_fall(chart, lay);
-    if order < n {
+    if let Some(order) = chart_fields::first_fall(chart, lay) {
         return Err(Refusal::Order(order));
     }
     if too_long(chart, lay, clock) {
@@ -266,7 +253,7 @@ pub fn check_body(chart: &[u8], lay: Layout, clock: f64) -> Result<(), Refusal>
     requires { Holds chart.now lay }
     ensures { result ≡ first_of (body_conditions chart.now lay clock) }
 {
-    if first_fault(chart, lay) < lay.n {
+    if has_fault(chart, lay) {
         return check_in_turn(chart, lay, clock);
     }
     if too_long(chart, lay, clock) {
@@ -298,5 +285,5 @@ pub fn check(chart: &[u8], entries: usize) -> Result<(), Refusal>
     if !header_ok(chart) {
         return Err(Refusal::Header);
     }
-    check_under(chart, settings_at(chart, 32), entries)
+    check_under(chart, settings_at(chart, SETTINGS_START), entries)
 }

@@ -5,7 +5,7 @@ ghost use Rattle.osu_difficulty_object.specs.Cursor.{last_tick, tracking_end, tr
 ghost use Rattle.osu_difficulty_object.specs.Cursor.{required_of, advanced_of, step_of, run_of, start_of, slider_cursor};
 
 use crate::OsuDifficultyObject;
-use chart_entries::Nested;
+use chart_entries::{Nested, NestedKind};
 use osu_object::{OsuObject, OsuSlider};
 use osu_pos::Pos;
 
@@ -41,7 +41,7 @@ fn is_tick(slider: &OsuSlider, k: usize) -> bool
     requires { k < slider.now.runs.nested_count }
     ensures { result ≡ is_tick (nested_list slider.now.chart.now slider.now.lay slider.now.runs) k }
 {
-    slider.nested(k).kind == chart_entries::TICK
+    slider.nested(k).kind == NestedKind::Tick as u32
 }
 
 // The last tick's place.
@@ -113,7 +113,7 @@ fn required_movement(kind: u32, last: bool) -> f64
     if last {
         return num_floats::widen(OsuDifficultyObject::ASSUMED_SLIDER_RADIUS);
     }
-    if kind == chart_entries::REPEAT {
+    if kind == NestedKind::Repeat as u32 {
         return OsuDifficultyObject::NORMALIZED_RADIUS as f64;
     }
     num_floats::widen(OsuDifficultyObject::ASSUMED_SLIDER_RADIUS)

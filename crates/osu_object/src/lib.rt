@@ -7,7 +7,7 @@ ghost use Rattle.osu_object.specs.Osu.{osu_object, object_of, stacked_pos, is_sl
 ghost use Rattle.osu_object.specs.Osu.{Slides, Ready, nested_list, end_pos, stacked_end_pos};
 ghost use Rattle.osu_object.specs.Base.{base_of, end_of, repeats_of};
 
-use chart_fields::{Fields, Layout};
+use chart_fields::{Fields, Layout, ObjectKind};
 use osu_pos::Pos;
 pub use slider::OsuSlider;
 
@@ -46,11 +46,12 @@ impl From<Fields> for OsuObjectKind {
 
     ghost from_gives = { λ f k. k ≡ kind_of f };
 
+    #[tactic(auto, unfolding(crate::specs::Osu::kind_of))]
     fn from(f: Fields) -> OsuObjectKind {
-        match f.kind {
-            chart_fields::CIRCLE => OsuObjectKind::Circle,
-            chart_fields::SLIDER => OsuObjectKind::Slider(f.end, f.spans as f64),
-            _ => OsuObjectKind::Spinner,
+        match ObjectKind::try_from(f.kind) {
+            Ok(ObjectKind::Circle) => OsuObjectKind::Circle,
+            Ok(ObjectKind::Slider) => OsuObjectKind::Slider(f.end, f.spans as f64),
+            Ok(ObjectKind::Spinner) | Err(_) => OsuObjectKind::Spinner,
         }
     }
 }

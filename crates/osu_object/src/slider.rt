@@ -4,7 +4,7 @@ ghost use Rattle.osu_object.specs.Osu.{Slides};
 ghost use Rattle.osu_object.specs.Path.{point_pos, between, whole_length};
 
 use crate::Runs;
-use chart_entries::{Nested, Point};
+use chart_entries::{Nested, NestedKind, Point};
 use chart_fields::Layout;
 use osu_pos::Pos;
 
@@ -54,7 +54,7 @@ impl OsuSlider<'_> {
         requires { k < self.now.runs.nested_count }
         ensures { result ≡ is_repeat (nested_list self.now.chart.now self.now.lay self.now.runs) k }
     {
-        self.nested(k).kind == chart_entries::REPEAT
+        self.nested(k).kind == NestedKind::Repeat as u32
     }
 
     // How many nested entries are repeats.

@@ -30,7 +30,7 @@ fn is_slider(chart: &[u8], lay: Layout, j: usize) -> bool
     requires { Holds chart.now lay × (j < lay.n) }
     ensures { result ≡ slider_at chart.now lay j }
 {
-    chart_fields::fields_of(chart, lay, j).kind == chart_fields::SLIDER
+    chart_fields::fields_of(chart, lay, j).is_slider()
 }
 
 // Whether the object at place j is one of these.

@@ -1,27 +1,7 @@
 -- `chart_entries::first_bad_entries` meets its contract. Assumes nothing.
-use mathlib.Core.Path.{sym, ◌∙◌}
-use native.Mathlib.Omega.{arith}
-use Rattle.chart_fields.proofs.Search.{begin, found, passed, none}
+use borrow.Author.Rules.{rules}
+use Rattle.chart_fields.proofs.Found.{find_is}
 use Rattle.chart_entries.proofs.first_bad_entries.Goals as goal
 
-pub loop-i-init : goal.loop-i-init
-loop-i-init c = begin _ _
-
-pub returns-then-bad_entries : goal.returns-then-bad_entries
-returns-then-bad_entries c =
-    found c.loop-i.invariant c.loop-i-test.true
-    (sym c.bad_entries.ensures ∙ c.if-bad_entries.true)
-
-pub overflow_add-i : goal.overflow_add-i
-overflow_add-i c = omega arith
-
-pub loop-i-smaller : goal.loop-i-smaller
-loop-i-smaller c = omega arith
-
-pub loop-i-preserved : goal.loop-i-preserved
-loop-i-preserved c =
-    passed c.loop-i.invariant c.loop-i-test.true
-    (sym c.bad_entries.ensures ∙ c.if-bad_entries.false)
-
 pub returns : goal.returns
-returns c = none c.loop-i.invariant c.loop-i-test.false
+returns c = find_is _ _ _ _ _ c.find.ensures.ran (λ x b q k. (search rules, search rules))

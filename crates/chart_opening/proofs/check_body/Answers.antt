@@ -2,7 +2,7 @@
 use Prim.Native.Nat.{◌≤◌}
 use mathlib.Core.Path.{sym, ◌∙◌}
 use native.Mathlib.Omega.{arith}
-use borrow.Author.Tests.{le-ltb}
+use borrow.Author.Tests.{le-ltb, ltb-false}
 use Rattle.chart_fields.specs.Search.{first_below}
 use Rattle.chart_opening.specs.Conditions.{first_of, at_fault, body_conditions}
 use Rattle.chart_opening.proofs.Faults.{no_bad_fields, no_bad_entries, no_falls}
@@ -12,7 +12,7 @@ pub returns-then-too_long : goal.returns-then-too_long
 unfolding first_of body_conditions
 returns-then-too_long c =
     let a = c.args in
-    let h : a.lay.n ≤ first_below (at_fault a.chart.now a.lay) a.lay.n = omega (arith, c.first_fault.ensures) in
+    let h : a.lay.n ≤ first_below (at_fault a.chart.now a.lay) a.lay.n = ltb-false _ _ (sym c.has_fault.ensures ∙ c.if-has_fault.false) in
     simp (
       no_bad_fields a.chart.now a.lay h,
       no_bad_entries a.chart.now a.lay h,
@@ -25,7 +25,7 @@ pub returns : goal.returns
 unfolding first_of body_conditions
 returns c =
     let a = c.args in
-    let h : a.lay.n ≤ first_below (at_fault a.chart.now a.lay) a.lay.n = omega (arith, c.first_fault.ensures) in
+    let h : a.lay.n ≤ first_below (at_fault a.chart.now a.lay) a.lay.n = ltb-false _ _ (sym c.has_fault.ensures ∙ c.if-has_fault.false) in
     simp (
       no_bad_fields a.chart.now a.lay h,
       no_bad_entries a.chart.now a.lay h,

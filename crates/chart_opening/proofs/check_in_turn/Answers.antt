@@ -1,45 +1,32 @@
 -- `chart_opening::check_in_turn` meets its contract. Assumes nothing.
 use mathlib.Core.Path.{sym, ◌∙◌}
-use borrow.Author.Tests.{lt-ltb, le-ltb}
+use Rattle.chart_fields.proofs.Found.{place_is, place_none}
 use Rattle.chart_opening.specs.Conditions.{first_of, body_conditions}
 use Rattle.chart_opening.proofs.check_in_turn.Goals as goal
 
-pub returns-then-object-n : goal.returns-then-object-n
+pub returns-in-Some : goal.returns-in-Some
 unfolding first_of body_conditions
-returns-then-object-n c = simp (sym c.first_bad_fields-object.ensures, lt-ltb _ _ c.if-object-n.true)
+returns-in-Some c = let p = place_is _ _ _ c.in-Some.ensures in simp (p.0, p.1)
 
-pub returns-then-entries-n : goal.returns-then-entries-n
+pub returns-in-Some-first_bad_entries : goal.returns-in-Some-first_bad_entries
 unfolding first_of body_conditions
-returns-then-entries-n c =
-    simp (
-      sym c.first_bad_fields-object.ensures,
-      le-ltb _ _ c.if-object-n.false,
-      sym c.first_bad_entries-entries.ensures,
-      lt-ltb _ _ c.if-entries-n.true,
-    )
+returns-in-Some-first_bad_entries c =
+    let p = place_is _ _ _ c.in-Some-first_bad_entries.ensures in
+    simp (place_none _ _ c.in_default.ensures, p.0, p.1)
 
-pub returns-then-order-n : goal.returns-then-order-n
+pub returns-in-Some-first_fall : goal.returns-in-Some-first_fall
 unfolding first_of body_conditions
-returns-then-order-n c =
-    simp (
-      sym c.first_bad_fields-object.ensures,
-      le-ltb _ _ c.if-object-n.false,
-      sym c.first_bad_entries-entries.ensures,
-      le-ltb _ _ c.if-entries-n.false,
-      sym c.first_fall-order.ensures,
-      lt-ltb _ _ c.if-order-n.true,
-    )
+returns-in-Some-first_fall c =
+    let p = place_is _ _ _ c.in-Some-first_fall.ensures in
+    simp (place_none _ _ c.in_default.ensures, place_none _ _ c.in_default-first_bad_entries.ensures, p.0, p.1)
 
 pub returns-then-too_long : goal.returns-then-too_long
 unfolding first_of body_conditions
 returns-then-too_long c =
     simp (
-      sym c.first_bad_fields-object.ensures,
-      le-ltb _ _ c.if-object-n.false,
-      sym c.first_bad_entries-entries.ensures,
-      le-ltb _ _ c.if-entries-n.false,
-      sym c.first_fall-order.ensures,
-      le-ltb _ _ c.if-order-n.false,
+      place_none _ _ c.in_default.ensures,
+      place_none _ _ c.in_default-first_bad_entries.ensures,
+      place_none _ _ c.in_default-first_fall.ensures,
       sym c.too_long.ensures ∙ c.if-too_long.true,
     )
 
@@ -47,11 +34,8 @@ pub returns : goal.returns
 unfolding first_of body_conditions
 returns c =
     simp (
-      sym c.first_bad_fields-object.ensures,
-      le-ltb _ _ c.if-object-n.false,
-      sym c.first_bad_entries-entries.ensures,
-      le-ltb _ _ c.if-entries-n.false,
-      sym c.first_fall-order.ensures,
-      le-ltb _ _ c.if-order-n.false,
+      place_none _ _ c.in_default.ensures,
+      place_none _ _ c.in_default-first_bad_entries.ensures,
+      place_none _ _ c.in_default-first_fall.ensures,
       sym c.too_long.ensures ∙ c.if-too_long.false,
     )

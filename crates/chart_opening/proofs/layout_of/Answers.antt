@@ -6,11 +6,11 @@ use Rattle.chart_fields.specs.Limits.{stated_size}
 use Rattle.chart_opening.specs.Header.{layout_of}
 use Rattle.chart_opening.proofs.Header.{size_most}
 use Rattle.chart_opening.proofs.layout_of.Goals as goal
-use Rattle.chart_opening.proofs.layout_of.Goals.{After-size_for-size}
+use Rattle.chart_opening.proofs.layout_of.Goals.{After-size_for-object_size}
 
-small : (c : After-size_for-size) → c.size_for-size.result * c.u32_at-n.result ≤ stated_size * 2 ^ 32
+small : (c : After-size_for-object_size) → c.size_for-object_size.result * c.u32_at-n.result ≤ stated_size * 2 ^ 32
 small c =
-    let size : c.size_for-size.result ≤ stated_size = rw c.size_for-size.ensures (size_most _) in
+    let size : c.size_for-object_size.result ≤ stated_size = rw c.size_for-object_size.ensures (size_most _) in
     let count : c.u32_at-n.result ≤ 2 ^ 32 = omega arith in
     mul-le-mul size count
 

@@ -8,10 +8,10 @@ pub returns-then-last : goal.returns-then-last
 unfolding required_of
 returns-then-last c = simp (assumed_radius, c.widen.ensures, c.if-last.true)
 
-pub returns-then-kind-eq-REPEAT : goal.returns-then-kind-eq-REPEAT
+pub returns-then-kind : goal.returns-then-kind
 unfolding required_of
-returns-then-kind-eq-REPEAT c = simp (eq-eqb _ _ c.if-kind-eq-REPEAT.true, c.if-last.false)
+returns-then-kind c = simp (eq-eqb _ _ c.if-kind.true, c.if-last.false)
 
 pub returns : goal.returns
 unfolding required_of
-returns c = simp (assumed_radius, c.widen-2.ensures, ne_eqb _ _ c.if-kind-eq-REPEAT.false, c.if-last.false)
+returns c = simp (assumed_radius, c.widen-2.ensures, ne_eqb _ _ c.if-kind.false, c.if-last.false)

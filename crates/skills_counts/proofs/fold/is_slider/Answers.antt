@@ -4,4 +4,4 @@ use Rattle.skills_counts.proofs.fold.is_slider.Goals as goal
 
 pub returns : goal.returns
 unfolding slider_at
-returns c = simp c.fields_of.ensures
+returns c = simp (c.is_slider.ensures, c.fields_of.ensures)
