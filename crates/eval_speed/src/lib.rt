@@ -25,6 +25,7 @@ const SPEED_BALANCING_FACTOR: f64 = 40.0;
 const DIST_MULTIPLIER: f64 = 0.8;
 
 // The delta time held to the hit window.
+#[tactic(auto, unfolding(crate::specs::Speed::strain_time))]
 fn strain_time(adjusted: f64, hit_window: f64) -> f64
     ensures { result ≡ strain_time adjusted hit_window }
 {
@@ -32,6 +33,7 @@ fn strain_time(adjusted: f64, hit_window: f64) -> f64
 }
 
 // What a strain time adds that is shorter than that of 200 beats a minute.
+#[tactic(auto, unfolding(crate::specs::Speed::speed_bonus))]
 fn speed_bonus(strain_time: f64) -> f64
     ensures { result ≡ speed_bonus strain_time }
 {
@@ -63,6 +65,7 @@ fn dist_bonus(dist: f64, small_circle_bonus: f64, autopilot: bool) -> f64
 }
 
 // The value of a record, with the travel distance of the one before it and the next record where there is one.
+#[tactic(auto, unfolding(crate::specs::Speed::speed_by))]
 fn evaluate(
     curr: OsuDifficultyObject,
     travel_dist: f64,
