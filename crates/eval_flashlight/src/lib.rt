@@ -39,6 +39,7 @@ pub struct FlashlightState {
 }
 
 // The evaluator that skills/flashlight.rs makes. Its scaling factor is neither the header's nor the record's.
+#[tactic(auto, unfolding(crate::specs::Flashlight::evaluator_of))]
 pub fn evaluator_of(set: Settings) -> FlashlightEvaluator
     ensures { result ≡ evaluator_of set }
 {
@@ -46,6 +47,7 @@ pub fn evaluator_of(set: Settings) -> FlashlightEvaluator
 }
 
 // An object that is seen within the flashlight counts less: the nearest one in time decides.
+#[tactic(auto, unfolding(crate::specs::Flashlight::small_dist_nerf))]
 fn small_dist_nerf(old: f64, jump_dist: f64, i: usize) -> f64
     ensures { result ≡ small_dist_nerf old jump_dist i }
 {
@@ -56,6 +58,7 @@ fn small_dist_nerf(old: f64, jump_dist: f64, i: usize) -> f64
 }
 
 // The count of repeated angles, in which objects further back count less.
+#[tactic(auto, unfolding(crate::specs::Flashlight::repeated_of))]
 fn repeated(count: f64, obj: OsuDifficultyObject, curr: OsuDifficultyObject, i: usize) -> f64
     requires { i ≤ history }
     ensures { result ≡ repeated_of count obj curr i }
@@ -67,6 +70,7 @@ fn repeated(count: f64, obj: OsuDifficultyObject, curr: OsuDifficultyObject, i: 
 }
 
 // The result, more with hidden, for there are no approach circles then.
+#[tactic(auto, unfolding(crate::specs::Flashlight::hidden_of))]
 fn with_hidden(res: f64, hidden: bool) -> f64
     ensures { result ≡ hidden_of res hidden }
 {
@@ -77,6 +81,7 @@ fn with_hidden(res: f64, hidden: bool) -> f64
 }
 
 // A slider's bonus, less for one with repeats, of which less has to be remembered.
+#[tactic(auto, unfolding(crate::specs::Flashlight::shared_of))]
 fn shared(bonus: f64, repeat_count: u32) -> f64
     requires { repeat_count ≤ 65536 }
     ensures { result ≡ shared_of bonus repeat_count }
@@ -89,6 +94,7 @@ fn shared(bonus: f64, repeat_count: u32) -> f64
 
 impl FlashlightState {
     // Before the first record.
+    #[tactic(auto, unfolding(crate::specs::Flashlight::fresh_state))]
     fn new() -> Self
         ensures { result ≡ fresh_state }
     {
@@ -124,6 +130,7 @@ impl FlashlightEvaluator {
     }
 
     // How visible the object that starts at `start` is at `time`.
+    #[tactic(auto, unfolding(crate::specs::Flashlight::opacity_bonus))]
     fn opacity_bonus(self, start: f64, time: f64, hidden: bool) -> f64
         ensures { result ≡ opacity_bonus self start time hidden }
     {
@@ -138,6 +145,7 @@ impl FlashlightEvaluator {
     }
 
     // What an object adds to the result; of a stack only the first counts.
+    #[tactic(auto, unfolding(crate::specs::Flashlight::added_of))]
     fn added(self, lazy_jump_dist: f64, jump_dist: f64, opacity_bonus: f64, time: f64) -> f64
         ensures { result ≡ added_of self lazy_jump_dist jump_dist opacity_bonus time }
     {
@@ -146,6 +154,7 @@ impl FlashlightEvaluator {
     }
 
     // One turn: obj stands i + 1 places back and ends at `end`, last is the record after it.
+    #[tactic(auto, unfolding(crate::specs::Flashlight::step_of))]
     fn step(
         self,
         s: FlashlightState,
@@ -208,6 +217,7 @@ impl FlashlightEvaluator {
     }
 
     // A slider's bonus: by the velocity and length of the true travel, which does not depend on circle size.
+    #[tactic(auto, unfolding(crate::specs::Flashlight::slider_bonus))]
     fn slider_bonus(self, curr: OsuDifficultyObject, slider: bool, repeat_count: u32) -> f64
         requires { repeat_count ≤ 65536 }
         ensures { result ≡ slider_bonus self curr slider repeat_count }
@@ -227,6 +237,7 @@ impl FlashlightEvaluator {
     }
 
     // The value after the walk.
+    #[tactic(auto, unfolding(crate::specs::Flashlight::value_of))]
     fn value(
         self,
         s: FlashlightState,
