@@ -1,6 +1,8 @@
 // Lines of the programs' answers. As in `print_text`, each function appends at an offset of a lent buffer and returns the offset behind what it wrote.
 #![tactic(auto)]
 
+mod tables;
+
 ghost use Rattle.std.specs.Prelude.{◌≡◌};
 ghost use Rattle.print_text.specs.Buffer.{Puts};
 ghost use Rattle.eval_values.specs.Values.{row_of};
@@ -16,6 +18,8 @@ use eval_values::Values;
 use osu_difficulty_object::OsuDifficultyObject;
 use skills::Skills;
 use skills_counts::ObjectCounts;
+
+pub use tables::{Header, fill_tables, open};
 
 // A space and the bits of a number.
 pub fn put_f64(out: &mut [u8], at: usize, x: f64) -> usize
@@ -233,11 +237,9 @@ pub fn show_values(out: &mut [u8], values: &[f64], n: usize) {
         return;
     }
     let mut end = put_count(out, 0, n);
-    let mut j = 1;
-    while j < n {
+    for j in 1..n {
         end = print_text::show_if_full(out, end);
         end = put_values(out, end, j, eval_values::row_at(values, j));
-        j += 1;
     }
     print_text::show(out, end);
 }

@@ -1,47 +1,61 @@
 // Standard input of the programs: little-endian numbers, charts and tables, one after the other.
-ghost use Rattle.std.specs.Prelude.{◌*◌, ◌≤◌, length};
+ghost use Rattle.std.specs.Prelude.{◌*◌, ◌≤◌, length, IfSome};
 
-// The next u32; the largest where the input ends.
+// Charts that are read at most.
+const MOST: usize = 65536;
+
+// The next u32; the largest where the input ends. With an Option each caller would write that default, so it is no plainer.
 pub fn next_word() -> usize {
     let mut word = [0u8; 4];
     if io::read_full(0, &mut word[..]) < 4 {
         return 0xFFFF_FFFF;
     }
-    num_floats::count_at(&word[..], 0)
+    u32::from_le_bytes(word) as usize
 }
 
 // The next u32, at most this.
 pub fn next_length(most: usize) -> usize
     ensures { result ≤ most }
 {
-    let n = next_word();
-    if most < n { most } else { n }
+    next_word().min(most)
 }
 
 // The next u64; 0 where the input ends.
 pub fn next_long() -> u64 {
     let mut word = [0u8; 8];
     io::read_full(0, &mut word[..]);
-    num_floats::u64_at(&word[..], 0)
+    u64::from_le_bytes(word)
 }
 
-// Reads a length and as many bytes into the buffer; the length, or one more than the buffer's where the input ends or there are more.
-pub fn read_chart(chart: &mut [u8]) -> usize {
+// Reads a length and as many bytes into the buffer; how many there were, or none where the buffer is too short for the length.
+pub fn read_chart(chart: &mut [u8]) -> Option<usize>
+    ensures { IfSome result (λ n. n ≤ length chart.new) }
+{
     let n = next_word();
     if chart.len() < n {
-        return chart.len() + 1;
+        return None;
     }
-    io::read_full(0, &mut chart[0..n])
+    Some(io::read_full(0, &mut chart[..n]))
+}
+
+// Answers each chart of the input, which is read into the buffer, to the input's end.
+pub fn each_chart<F: FnMut(&mut [u8])>(chart: &mut [u8], mut answer: F)
+    requires { F.IsAlwaysCallable answer }
+{
+    for _ in 0..MOST {
+        let Some(n) = read_chart(chart) else {
+            break;
+        };
+        answer(&mut chart[..n]);
+    }
 }
 
 // The first n numbers of the bytes.
 fn decode(bytes: &[u8], n: usize, table: &mut [f64])
     requires { (8 * n ≤ length bytes.now) × (n ≤ length table.old) }
 {
-    let mut i = 0;
-    while i < n {
+    for i in 0..n {
         table[i] = num_floats::f64_at(bytes, 8 * i);
-        i += 1;
     }
 }
 

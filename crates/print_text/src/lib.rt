@@ -10,7 +10,7 @@ ghost use Rattle.print_text.specs.Text as Text;
 
 use num_floats::Binary;
 
-pub use input::{next_length, next_long, next_word, read_chart, read_numbers};
+pub use input::{each_chart, next_length, next_long, next_word, read_chart, read_numbers};
 
 // One byte.
 pub fn put(out: &mut [u8], at: usize, b: u8) -> usize
@@ -31,10 +31,8 @@ pub fn put_all(out: &mut [u8], at: usize, s: &[u8]) -> usize
     ensures { Puts s.now out.old at out.new result }
 {
     let mut end = at;
-    let mut i = 0;
-    while i < s.len() {
-        end = put(out, end, s[i]);
-        i += 1;
+    for b in s {
+        end = put(out, end, *b);
     }
     end
 }
@@ -57,9 +55,7 @@ fn put_digits(out: &mut [u8], at: usize, v: u64, n: u32) -> usize
     ensures { Puts (Text.hex_text n v) out.old at out.new result }
 {
     let mut end = at;
-    let mut left = n;
-    while 0 < left {
-        left -= 1;
+    for left in (0..n).rev() {
         end = put(out, end, digit((v >> (left * 4)) % 16));
     }
     end

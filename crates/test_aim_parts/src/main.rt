@@ -5,10 +5,7 @@
 
 ghost use Rattle.std.specs.Prelude.{◌≤◌, length};
 
-use chart_opening::Refusal;
-
-// Charts that are read at most.
-const MOST: usize = 65536;
+use print_lines::Header;
 
 // The line of place j.
 fn put_place(out: &mut [u8], at: usize, chart: &[u8], t: &[f64], j: usize) -> usize {
@@ -25,11 +22,9 @@ fn put_place(out: &mut [u8], at: usize, chart: &[u8], t: &[f64], j: usize) -> us
 // All lines of a chart with its records, written.
 fn show_places(out: &mut [u8], chart: &[u8], n: usize, t: &[f64]) {
     let mut end = print_lines::put_count(out, 0, n);
-    let mut j = 1;
-    while j < n {
+    for j in 1..n {
         end = print_text::show_if_full(out, end);
         end = put_place(out, end, chart, t, j);
-        j += 1;
     }
     print_text::show(out, end);
 }
@@ -38,11 +33,9 @@ fn show_places(out: &mut [u8], chart: &[u8], n: usize, t: &[f64]) {
 fn answer(out: &mut [u8], chart: &[u8], t: &mut [f64])
     requires { 16384 ≤ length t.old }
 {
-    match chart_opening::check(chart, 1024) {
+    match print_lines::open(chart, 1024) {
         Err(r) => print_lines::show_refusal(out, r),
-        Ok(()) => {
-            let lay = chart_opening::layout_of(chart);
-            let set = chart_opening::settings_at(chart, 32);
+        Ok(Header { lay, set }) => {
             osu_records::fill(chart, lay, set, t);
             show_places(out, chart, lay.n, t);
         }
@@ -50,24 +43,12 @@ fn answer(out: &mut [u8], chart: &[u8], t: &mut [f64])
 }
 
 // Charts to the end of the input.
-fn run(out: &mut [u8], chart: &mut [u8], t: &mut [f64])
-    requires { 16384 ≤ length t.old }
-{
-    let mut left = MOST;
-    while 0 < left {
-        let n = print_text::read_chart(chart);
-        if n <= chart.len() {
-            answer(out, &chart[0..n], t);
-            left -= 1;
-        } else {
-            left = 0;
-        }
-    }
-}
-
 fn main() {
     let mut out = io::large_buffer();
-    let mut chart = io::large_buffer();
+    let mut buffer = io::large_buffer();
     let mut t = [0.0f64; 16384];
-    run(&mut out[..], &mut chart[..], &mut t[..]);
+    print_text::each_chart(
+        &mut buffer[..],
+        |chart| answer(&mut out[..], chart, &mut t[..]),
+    );
 }

@@ -20,11 +20,9 @@ fn chart() -> [u8; 917640]
 fn put(s: &mut [u8], at: usize, v: u64, bytes: usize) -> usize {
     let mut end = at;
     let mut rest = v;
-    let mut left = bytes;
-    while 0 < left {
+    for _ in 0..bytes {
         end = print_text::put(s, end, (rest % 256) as u8);
-        rest = rest / 256;
-        left -= 1;
+        rest /= 256;
     }
     end
 }
@@ -56,13 +54,11 @@ fn put_sight(s: &mut [u8], at: usize) -> usize {
 fn put_circles(s: &mut [u8], at: usize, n: usize) {
     let mut end = at;
     let mut time = 0.0;
-    let mut left = n;
-    while 0 < left {
+    for _ in 0..n {
         end = put(s, end, time.bits(), 8);
         end = put(s, end, time.bits(), 8);
         end = put(s, end, 0, chart_fields::OBJECT_SIZE - 16);
-        time = time + 1.0;
-        left -= 1;
+        time += 1.0;
     }
 }
 
@@ -111,7 +107,7 @@ fn run(s: &mut [u8], out: &mut [u8], n: usize)
     let sight = put_sight(s, play);
     put_circles(s, sight, n);
     if size <= s.len() {
-        open(out, &s[0..size]);
+        open(out, &s[..size]);
     }
 }
 

@@ -2,11 +2,14 @@
 // little-endian words, the bits of its arguments. For each one line is written: the answer's bits in hex; an i32 goes as the f64 of its number.
 #![tactic(auto)]
 
-ghost use Rattle.std.specs.Prelude.{◌*◌, ◌≤◌, ◌≡◌, length};
+ghost use Rattle.std.specs.Prelude.{◌≡◌, length};
 
 use num_floats::Binary;
 
+// The bytes of a vector, and pieces of the input that are read at most.
 const SIZE: usize = 25;
+
+const MOST: usize = 64;
 
 // The f64 answers of one argument.
 fn of_one(f: u8, x: f64) -> f64 {
@@ -82,36 +85,28 @@ fn told(b: bool) -> u8 {
     if b { b'1' } else { b'0' }
 }
 
-// The lines of the first n vectors of s.
-fn answers(s: &[u8], n: usize, out: &mut [u8]) -> usize
-    requires { n * 25 ≤ length s.now }
-{
+// The lines of the vectors of s.
+fn answers(s: &[u8], out: &mut [u8]) -> usize {
     let mut end = 0;
-    let mut i = 0;
-    while i < n {
-        let at = i * SIZE;
-        let x = num_floats::u64_at(s, at + 1);
-        let y = num_floats::u64_at(s, at + 9);
-        let z = num_floats::u64_at(s, at + 17);
-        let stop = answer(out, end, s[at], x, y, z);
+    for vector in s.chunks_exact(SIZE) {
+        let x = num_floats::u64_at(vector, 1);
+        let y = num_floats::u64_at(vector, 9);
+        let z = num_floats::u64_at(vector, 17);
+        let stop = answer(out, end, vector[0], x, y, z);
         end = print_text::put(out, stop, b'\n');
-        i += 1;
     }
     end
 }
 
 // All vectors of standard input, as many at a time as s holds.
 fn run(s: &mut [u8], out: &mut [u8]) {
-    let mut left: usize = 64;
-    while 0 < left {
+    for _ in 0..MOST {
         let got = io::read_full(0, s);
-        let n = got / SIZE;
-        let end = answers(s, n, out);
+        let end = answers(&s[..got], out);
         print_text::show(out, end);
         if got < s.len() {
-            return;
+            break;
         }
-        left -= 1;
     }
 }
 

@@ -11,12 +11,10 @@ ghost use Rattle.eval_outer.specs.Records.{record_of};
 ghost use Rattle.test_outer.specs.Values.{gathered_of};
 
 use chart_fields::Layout;
-use chart_opening::{Refusal, Settings};
+use chart_opening::Settings;
 use eval_values::Values;
 use osu_difficulty_object::OsuDifficultyObject;
-
-// Charts that are read at most.
-const MOST: usize = 65536;
+use print_lines::Header;
 
 // The records of places 1 to n - 1 as structs; those behind them repeat the first.
 fn records_of(t: &[f64], n: usize) -> [OsuDifficultyObject; 64]
@@ -24,10 +22,8 @@ fn records_of(t: &[f64], n: usize) -> [OsuDifficultyObject; 64]
 {
     let first = osu_records::record_at(t, 1);
     let mut rs = [first; 64];
-    let mut j: usize = 1;
-    while j < n {
+    for j in 1..n {
         rs[j - 1] = osu_records::record_at(t, j);
-        j += 1;
     }
     rs
 }
@@ -78,11 +74,9 @@ fn show_values(
     requires { Ready chart.now lay × (lay.n ≤ 65) }
 {
     let mut end = print_lines::put_count(out, 0, lay.n);
-    let mut j = 1;
-    while j < lay.n {
+    for j in 1..lay.n {
         let values = values_of_array(chart, rs, lay.n - 1, lay, set, j);
         end = print_lines::put_values(out, end, j, values);
-        j += 1;
     }
     print_text::show(out, end);
 }
@@ -91,11 +85,9 @@ fn show_values(
 fn answer(out: &mut [u8], chart: &[u8], t: &mut [f64])
     requires { 1040 ≤ length t.old }
 {
-    match chart_opening::check(chart, 65) {
+    match print_lines::open(chart, 65) {
         Err(r) => print_lines::show_refusal(out, r),
-        Ok(()) => {
-            let lay = chart_opening::layout_of(chart);
-            let set = chart_opening::settings_at(chart, 32);
+        Ok(Header { lay, set }) => {
             osu_records::fill(chart, lay, set, t);
             show_values(out, chart, records_of(t, lay.n), lay, set);
         }
@@ -103,24 +95,12 @@ fn answer(out: &mut [u8], chart: &[u8], t: &mut [f64])
 }
 
 // Charts to the end of the input.
-fn run(out: &mut [u8], chart: &mut [u8], t: &mut [f64])
-    requires { 1040 ≤ length t.old }
-{
-    let mut left = MOST;
-    while 0 < left {
-        let n = print_text::read_chart(chart);
-        if n <= chart.len() {
-            answer(out, &chart[0..n], t);
-            left -= 1;
-        } else {
-            left = 0;
-        }
-    }
-}
-
 fn main() {
     let mut out = io::large_buffer();
-    let mut chart = io::large_buffer();
+    let mut buffer = io::large_buffer();
     let mut t = [0.0f64; 1040];
-    run(&mut out[..], &mut chart[..], &mut t[..]);
+    print_text::each_chart(
+        &mut buffer[..],
+        |chart| answer(&mut out[..], chart, &mut t[..]),
+    );
 }

@@ -10,8 +10,9 @@ ghost use Rattle.std.specs.Prelude.{◌+◌, ◌*◌, ◌≤◌, length};
 use chart_opening::Refusal;
 use skills_rating::Mods;
 use skills_stars::Asked;
+use test_replays::lines;
 
-// Packs that are read at most, and requests of a pack.
+// Requests of a pack at most.
 const MOST: usize = 65536;
 
 // Entries of each table.
@@ -20,20 +21,10 @@ const ENTRIES: usize = 256;
 // What tables and scratch hold before the first call.
 const UNUSED: f64 = 7.5;
 
-// An offset as a number of 64 bits.
-fn wide(x: usize) -> u64 {
-    x as u64
-}
-
 // The FNV-1a hash of a list.
 fn hash_list(list: &[usize]) -> u64 {
-    let mut h = 0xCBF2_9CE4_8422_2325;
-    let mut i = 0;
-    while i < list.len() {
-        h = test_replays::lines::hashed(h, wide(list[i]));
-        i += 1;
-    }
-    h
+    list.iter()
+        .fold(lines::START, |h, x| { lines::hashed(h, *x as u64) })
 }
 
 // Reads a number of offsets and the offsets into the list.
@@ -41,10 +32,8 @@ fn read_offsets(list: &mut [usize]) -> usize
     ensures { result ≤ length list.old }
 {
     let n = print_text::next_length(list.len());
-    let mut i = 0;
-    while i < n {
-        list[i] = print_text::next_long() as usize;
-        i += 1;
+    for offset in list[..n].iter_mut() {
+        *offset = print_text::next_long() as usize;
     }
     n
 }
@@ -62,7 +51,7 @@ fn read_asked() -> Asked {
         num_floats::f64_at(&s[..], 40),
     );
     Asked {
-        mods: mods,
+        mods,
         approach_rate: num_floats::f64_at(&s[..], 8),
         overall_difficulty: num_floats::f64_at(&s[..], 16),
         base_multiplier: num_floats::f64_at(&s[..], 24),
@@ -72,17 +61,21 @@ fn read_asked() -> Asked {
 // The offset of a list's end, with a space before each offset.
 fn put_offsets(out: &mut [u8], at: usize, list: &[usize]) -> usize {
     let mut end = at;
-    let mut i = 0;
-    while i < list.len() {
+    for offset in list {
         end = print_text::put(out, end, b' ');
-        end = print_text::put_decimal(out, end, wide(list[i]));
-        i += 1;
+        end = print_text::put_decimal(out, end, *offset as u64);
     }
     end
 }
 
 // The line of a ranking: the listing, or the refusal; and a line where it changed what it must not.
-fn put_verdict(out: &mut [u8], v: Result<(), Refusal>, list: &[usize], same: bool, zero: bool) -> usize {
+fn put_verdict(
+    out: &mut [u8],
+    v: Result<(), Refusal>,
+    list: &[usize],
+    same: bool,
+    zero: bool,
+) -> usize {
     match v {
         Ok(()) => {
             let word = print_text::put_all(out, 0, b"listing");
@@ -103,12 +96,11 @@ fn put_verdict(out: &mut [u8], v: Result<(), Refusal>, list: &[usize], same: boo
     }
 }
 
-// Ranks a list or joins two.
+// Ranks a list, or joins two, of which the first has so many offsets.
 fn carry_out(
-    kind: usize,
     pack: &[u8],
     list: &mut [usize],
-    first: usize,
+    first: Option<usize>,
     asked: Asked,
     records: &mut [f64],
     values: &mut [f64],
@@ -117,8 +109,8 @@ fn carry_out(
     speed: &mut [f64],
     flashlight: &mut [f64],
 ) -> Result<(), Refusal> {
-    if kind == 1 {
-        return pack::join(
+    match first {
+        Some(first) => pack::join(
             pack,
             list,
             first,
@@ -129,25 +121,25 @@ fn carry_out(
             aim_no_sliders,
             speed,
             flashlight,
-        );
+        ),
+        None => pack::rank(
+            pack,
+            list,
+            asked,
+            records,
+            values,
+            aim,
+            aim_no_sliders,
+            speed,
+            flashlight,
+        ),
     }
-    pack::rank(
-        pack,
-        list,
-        asked,
-        records,
-        values,
-        aim,
-        aim_no_sliders,
-        speed,
-        flashlight,
-    )
 }
 
 // A hash of list and tables.
 fn hash_all(list: &[usize], records: &[f64], values: &[f64]) -> u64 {
-    let h = test_replays::lines::hash_table(hash_list(list), records);
-    test_replays::lines::hash_table(h, values)
+    let h = lines::hash_table(hash_list(list), records);
+    lines::hash_table(h, values)
 }
 
 // Whether all scratch is x, bit for bit.
@@ -158,19 +150,18 @@ fn all_hold(
     flashlight: &[f64],
     x: f64,
 ) -> bool {
-    test_replays::lines::holds(aim, x)
-        & test_replays::lines::holds(aim_no_sliders, x)
-        & test_replays::lines::holds(speed, x)
-        & test_replays::lines::holds(flashlight, x)
+    lines::holds(aim, x)
+        && lines::holds(aim_no_sliders, x)
+        && lines::holds(speed, x)
+        && lines::holds(flashlight, x)
 }
 
 // Ranks a list with tables and scratch as they are lent, and puts the line.
 fn rank_with(
     out: &mut [u8],
-    kind: usize,
     pack: &[u8],
     list: &mut [usize],
-    first: usize,
+    first: Option<usize>,
     asked: Asked,
     records: &mut [f64],
     values: &mut [f64],
@@ -181,7 +172,6 @@ fn rank_with(
 ) -> usize {
     let before = hash_all(list, records, values);
     let v = carry_out(
-        kind,
         pack,
         list,
         first,
@@ -199,10 +189,10 @@ fn rank_with(
     put_verdict(out, v, list, same & unused, zero)
 }
 
-// Reads a request to rank, with the lengths of tables and scratch that are lent for it, and puts its line.
+// Reads a request to rank or to join, with the lengths of tables and scratch that are lent for it, and puts its line.
 fn rank(
     out: &mut [u8],
-    kind: usize,
+    joins: bool,
     pack: &[u8],
     records: &mut [f64],
     values: &mut [f64],
@@ -223,37 +213,17 @@ fn rank(
     let w = print_text::next_length(9000);
     rank_with(
         out,
-        kind,
         pack,
-        &mut list[0..n],
-        first,
+        &mut list[..n],
+        joins.then_some(first),
         asked,
-        &mut records[0..r],
-        &mut values[0..v],
-        &mut aim[0..x],
-        &mut aim_no_sliders[0..y],
-        &mut speed[0..z],
-        &mut flashlight[0..w],
+        &mut records[..r],
+        &mut values[..v],
+        &mut aim[..x],
+        &mut aim_no_sliders[..y],
+        &mut speed[..z],
+        &mut flashlight[..w],
     )
-}
-
-// The offset of the line's end before an offset.
-fn line_end(at: usize) -> usize {
-    if 0 < at { at - 1 } else { 0 }
-}
-
-// The numbers of an entry of both tables.
-fn put_numbers(out: &mut [u8], at: usize, place: usize, records: &[f64], values: &[f64]) -> usize
-    requires { (place ≤ 256) × (16 * place + 16 ≤ length records.now) × (5 * place + 5 ≤ length values.now) }
-{
-    let line = print_lines::put_record(out, at, place, osu_records::record_at(records, place));
-    let x = eval_values::row_at(values, place);
-    let aim = print_lines::put_f64(out, line_end(line), x.aim);
-    let aim_no_sliders = print_lines::put_f64(out, aim, x.aim_no_sliders);
-    let speed = print_lines::put_f64(out, aim_no_sliders, x.speed);
-    let rhythm = print_lines::put_f64(out, speed, x.rhythm);
-    let flashlight = print_lines::put_f64(out, rhythm, x.flashlight);
-    print_text::put(out, flashlight, b'\n')
 }
 
 // What an entry of both tables holds, or that it was never written.
@@ -268,24 +238,26 @@ fn put_entry(out: &mut [u8], place: usize, records: &[f64], values: &[f64]) -> u
     if values.len() < calls::VALUE_WIDTH * place + calls::VALUE_WIDTH {
         return word;
     }
-    if test_replays::lines::holds(&records[r..r + calls::RECORD_WIDTH], UNUSED) {
-        let end = print_text::put_decimal(out, word, wide(place));
+    if lines::holds(&records[r..r + calls::RECORD_WIDTH], UNUSED) {
+        let end = print_text::put_decimal(out, word, place as u64);
         return print_text::put_all(out, end, b" kept\n");
     }
-    put_numbers(out, word, place, records, values)
+    lines::put_entry(out, word, place, records, values)
 }
 
 // Answers one request.
 fn answer(pack: &[u8], records: &mut [f64], values: &mut [f64]) {
     let mut out = [0u8; 8192];
-    let kind = print_text::next_word();
-    if kind == 2 {
-        let place = print_text::next_length(ENTRIES);
-        let end = put_entry(&mut out[..], place, records, values);
-        print_text::show(&out[..], end);
-        return;
-    }
-    let end = rank(&mut out[..], kind, pack, records, values);
+    let end = match print_text::next_word() {
+        1 => rank(&mut out[..], true, pack, records, values),
+        2 => put_entry(
+            &mut out[..],
+            print_text::next_length(ENTRIES),
+            records,
+            values,
+        ),
+        _ => rank(&mut out[..], false, pack, records, values),
+    };
     print_text::show(&out[..], end);
 }
 
@@ -293,24 +265,13 @@ fn answer(pack: &[u8], records: &mut [f64], values: &mut [f64]) {
 fn answers(pack: &[u8]) {
     let mut records = [UNUSED; 4096];
     let mut values = [UNUSED; 1280];
-    let mut left = print_text::next_length(MOST);
-    while 0 < left {
+    for _ in 0..print_text::next_length(MOST) {
         answer(pack, &mut records[..], &mut values[..]);
-        left -= 1;
     }
 }
 
 // Packs to the end of the input.
 fn main() {
-    let mut pack = [0u8; 65536];
-    let mut left = MOST;
-    while 0 < left {
-        let n = print_text::read_chart(&mut pack[..]);
-        if n <= 65536 {
-            answers(&pack[0..n]);
-            left -= 1;
-        } else {
-            left = 0;
-        }
-    }
+    let mut buffer = io::large_buffer();
+    print_text::each_chart(&mut buffer[..], |pack| answers(pack));
 }

@@ -4,19 +4,15 @@
 #![tactic(auto)]
 
 ghost use Rattle.std.specs.Prelude.{◌*◌, ◌+◌, ◌≤◌, length};
-ghost use Rattle.osu_object.specs.Osu.{Ready};
 ghost use Rattle.skills.specs.Chart.{Readable};
 
 use chart_fields::Layout;
-use chart_opening::{Refusal, Settings};
+use print_lines::Header;
 use skills::Skills;
-
-// Charts that are read at most.
-const MOST: usize = 65536;
 
 // Number j, 0 where there is none.
 fn number_at(list: &[f64], j: usize) -> f64 {
-    if j < list.len() { list[j] } else { 0.0 }
+    list.get(j).copied().unwrap_or(0.0)
 }
 
 // Entry m of the list.
@@ -41,12 +37,10 @@ fn put_entries(out: &mut [u8], at: usize, n: usize, list: &[f64]) -> usize
     requires { n ≤ 1024 }
 {
     let mut end = at;
-    let mut m = 0;
-    while m <= n {
+    for m in 0..n + 1 {
         end = print_text::show_if_full(out, end);
         end = print_text::put_decimal(out, end, m as u64);
         end = print_lines::put_skills(out, end, entry_at(list, m));
-        m += 1;
     }
     end
 }
@@ -116,49 +110,26 @@ fn put_lines(out: &mut [u8], chart: &[u8], lay: Layout, clock: f64, values: &[f6
     print_text::show(out, end);
 }
 
-// The tables of a chart that is ready to be read.
-fn fill_tables(chart: &[u8], lay: Layout, set: Settings, t: &mut [f64], values: &mut [f64])
-    requires { (Ready chart.now lay) × (16 * lay.n ≤ length t.old) × (5 * lay.n ≤ length values.old) }
-{
-    osu_records::fill(chart, lay, set, t);
-    eval_values::fill_values(values, t, chart, lay, set, 1, lay.n);
-}
-
 // The lines of one chart.
 fn answer(out: &mut [u8], chart: &[u8], t: &mut [f64], values: &mut [f64])
     requires { (16384 ≤ length t.old) × (5120 ≤ length values.old) }
 {
-    match chart_opening::check(chart, 1024) {
+    match print_lines::open(chart, 1024) {
         Err(r) => print_lines::show_refusal(out, r),
-        Ok(()) => {
-            let lay = chart_opening::layout_of(chart);
-            let set = chart_opening::settings_at(chart, 32);
-            fill_tables(chart, lay, set, t, values);
+        Ok(Header { lay, set }) => {
+            print_lines::fill_tables(chart, lay, set, t, values);
             put_lines(out, chart, lay, set.clock_rate, values);
         }
     }
 }
 
 // Charts to the end of the input.
-fn run(out: &mut [u8], chart: &mut [u8], t: &mut [f64], values: &mut [f64])
-    requires { (16384 ≤ length t.old) × (5120 ≤ length values.old) }
-{
-    let mut left = MOST;
-    while 0 < left {
-        let n = print_text::read_chart(chart);
-        if n <= chart.len() {
-            answer(out, &chart[0..n], t, values);
-            left -= 1;
-        } else {
-            left = 0;
-        }
-    }
-}
-
 fn main() {
     let mut out = io::large_buffer();
-    let mut chart = io::large_buffer();
+    let mut buffer = io::large_buffer();
     let mut t = [0.0f64; 16384];
     let mut values = [0.0f64; 5120];
-    run(&mut out[..], &mut chart[..], &mut t[..], &mut values[..]);
+    print_text::each_chart(&mut buffer[..], |chart| {
+        answer(&mut out[..], chart, &mut t[..], &mut values[..])
+    });
 }

@@ -3,11 +3,9 @@
 // `refused` with number and place is printed, and after the last the Adler-32 checksum of the chart's bytes. All numbers are little-endian.
 #![tactic(auto)]
 
-ghost use Rattle.std.specs.Prelude.{◌<◌};
-
 use chart_opening::Refusal;
 
-// Charts that are read at most, and calls on each.
+// Calls on a chart at most.
 const MOST: usize = 65536;
 
 // The line of an answer.
@@ -22,31 +20,21 @@ fn put_verdict(out: &mut [u8], v: Result<(), Refusal>) -> usize {
 fn call(out: &mut [u8], chart: &mut [u8], object: &mut [u8]) {
     let place = print_text::next_long() as usize;
     let entries = print_text::next_word();
-    let n = print_text::read_chart(object);
-    if object.len() < n {
+    let Some(n) = print_text::read_chart(object) else {
         return;
-    }
-    let verdict = chart_replacing::replace(chart, place, &object[0..n], entries);
+    };
+    let verdict = chart_replacing::replace(chart, place, &object[..n], entries);
     let end = put_verdict(out, verdict);
     print_text::show(out, end);
-}
-
-// A byte as a larger number.
-fn wide(x: u8) -> u32
-    ensures { result < 256 }
-{
-    x as u32
 }
 
 // Adler-32 of s: the sum of its bytes from 1 on, and behind it the sum of those sums, both by 65,521.
 fn checksum(s: &[u8]) -> u32 {
     let mut a: u32 = 1;
     let mut b: u32 = 0;
-    let mut i = 0;
-    while i < s.len() {
-        a = (a % 65521 + wide(s[i])) % 65521;
+    for byte in s {
+        a = (a % 65521 + u32::from(*byte)) % 65521;
         b = (b % 65521 + a) % 65521;
-        i += 1;
     }
     b % 65521 * 0x1_0000 + a % 65521
 }
@@ -61,31 +49,18 @@ fn show_checksum(out: &mut [u8], chart: &[u8]) {
 
 // All calls on a chart.
 fn calls(out: &mut [u8], chart: &mut [u8], object: &mut [u8]) {
-    let mut left = print_text::next_length(MOST);
-    while 0 < left {
+    for _ in 0..print_text::next_length(MOST) {
         call(out, chart, object);
-        left -= 1;
     }
     show_checksum(out, chart);
 }
 
 // Charts to the end of the input.
-fn run(out: &mut [u8], chart: &mut [u8], object: &mut [u8]) {
-    let mut left = MOST;
-    while 0 < left {
-        let n = print_text::read_chart(chart);
-        if n <= chart.len() {
-            calls(out, &mut chart[0..n], object);
-            left -= 1;
-        } else {
-            left = 0;
-        }
-    }
-}
-
 fn main() {
     let mut out = io::buffer();
-    let mut chart = io::large_buffer();
+    let mut buffer = io::large_buffer();
     let mut object = io::buffer();
-    run(&mut out[..], &mut chart[..], &mut object[..]);
+    print_text::each_chart(&mut buffer[..], |chart| {
+        calls(&mut out[..], chart, &mut object[..])
+    });
 }

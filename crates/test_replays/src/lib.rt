@@ -23,308 +23,257 @@
 #![tactic(auto)]
 
 use chart_opening::Refusal;
-use eval_values::Values;
-use eval_rhythm::Counted;
-use calls_readings::AimDetail;
-use osu_difficulty_object::OsuDifficultyObject;
+use lines::PATTERN;
 
 pub mod lines;
 
 // Scripts, and calls of a script, that are read at most.
 const MOST: usize = 65536;
 
-// The line of an opening or an edit.
-fn show_verdict(v: Result<(), Refusal>, word: &[u8], before: u64, after: u64) {
-    let mut out = [0u8; 512];
-    let end = lines::put_verdict(&mut out[..], 0, v, word, before, after);
-    print_text::show(&out[..], end);
+// Numbers of each scratch at most.
+const SCRATCH: usize = 9216;
+
+// A call of a script: the first player's unless it says whose it is.
+#[derive(Clone, Copy)]
+enum Call {
+    First(Question),
+    Second(Question),
+    Change(Change),
+    ChangeBoth(Change),
+    Poke,
+    Chart,
+    Lent,
+    Set,
 }
 
-// The line of a record.
-fn show_record(place: usize, answer: Result<OsuDifficultyObject, Refusal>) {
-    let mut out = [0u8; 512];
-    let end = lines::put_record(&mut out[..], 0, place, answer);
-    print_text::show(&out[..], end);
+// A call that leaves the chart alone.
+#[derive(Clone, Copy)]
+enum Question {
+    Open,
+    Record,
+    Values,
+    Totals,
+    Entry,
+    AimParts,
+    Rhythm,
 }
 
-// The line of a place's values.
-fn show_values(place: usize, answer: Result<Values, Refusal>) {
-    let mut out = [0u8; 512];
-    let end = lines::put_values(&mut out[..], 0, place, answer);
-    print_text::show(&out[..], end);
+// An edit of the chart.
+#[derive(Clone, Copy)]
+enum Change {
+    Replace,
+    Insert,
+    Remove,
 }
 
-// The line of aim with its parts.
-fn show_aim_parts(place: usize, answer: Result<AimDetail, Refusal>) {
-    let mut out = [0u8; 512];
-    let end = lines::put_aim_parts(&mut out[..], 0, place, answer);
-    print_text::show(&out[..], end);
-}
-
-// The line of a rhythm value with its comparisons.
-fn show_rhythm(place: usize, answer: Result<Counted, Refusal>) {
-    let mut out = [0u8; 512];
-    let end = lines::put_rhythm(&mut out[..], 0, place, answer);
-    print_text::show(&out[..], end);
-}
-
-// The line of what an entry holds.
-fn show_entry(pattern: &[f64], records: &[f64], values: &[f64]) {
-    let mut out = [0u8; 512];
-    let end = lines::next_entry(&mut out[..], 0, pattern, records, values);
-    print_text::show(&out[..], end);
-}
-
-// The line of how many bytes are lent.
-fn show_lent(n: usize) {
-    let mut out = [0u8; 512];
-    let end = lines::put_lent(&mut out[..], 0, n);
-    print_text::show(&out[..], end);
-}
-
-// The line of a chart's length and hash.
-fn show_chart(chart: &[u8]) {
-    let mut out = [0u8; 512];
-    let end = lines::put_chart(&mut out[..], 0, chart);
-    print_text::show(&out[..], end);
-}
-
-// Opens the chart for the first player.
-fn open(chart: &[u8], records: &mut [f64], values: &mut [f64]) {
-    let r = print_text::next_length(records.len());
-    let v = print_text::next_length(values.len());
-    let before = lines::hash_all(chart, records, values);
-    let verdict = calls_editor::open(chart, &mut records[0..r], &mut values[0..v]);
-    let after = lines::hash_all(chart, records, values);
-    show_verdict(verdict, b"opened\n", before, after);
-}
-
-// Opens the chart for the second player.
-fn open_as(chart: &[u8], settings: &[u8], records: &mut [f64], values: &mut [f64]) {
-    let r = print_text::next_length(records.len());
-    let v = print_text::next_length(values.len());
-    let before = lines::hash_all(chart, records, values);
-    let verdict = calls_editor::open_as(chart, settings, &mut records[0..r], &mut values[0..v]);
-    let after = lines::hash_all(chart, records, values);
-    show_verdict(verdict, b"opened\n", before, after);
-}
-
-// The first player's totals with this scratch.
-fn totals(
-    chart: &[u8],
-    values: &[f64],
-    aim: &mut [f64],
-    aim_no_sliders: &mut [f64],
-    speed: &mut [f64],
-    flashlight: &mut [f64],
-) {
-    let mut out = [0u8; 512];
-    let answer = calls_figures::totals(chart, values, aim, aim_no_sliders, speed, flashlight);
-    let end = lines::put_totals(
-        &mut out[..],
-        0,
-        answer,
-        aim,
-        aim_no_sliders,
-        speed,
-        flashlight,
-    );
-    print_text::show(&out[..], end);
-}
-
-// Reads the lengths before the call.
-fn read_and_total(chart: &[u8], values: &[f64]) {
-    let mut aim = [lines::UNUSED; 9216];
-    let mut aim_no_sliders = [lines::UNUSED; 9216];
-    let mut speed = [lines::UNUSED; 9216];
-    let mut flashlight = [lines::UNUSED; 9216];
-    let v = print_text::next_length(values.len());
-    let m = print_text::next_length(9216);
-    let n = print_text::next_length(9216);
-    let o = print_text::next_length(9216);
-    let p = print_text::next_length(9216);
-    totals(
-        chart,
-        &values[0..v],
-        &mut aim[0..m],
-        &mut aim_no_sliders[0..n],
-        &mut speed[0..o],
-        &mut flashlight[0..p],
-    );
-}
-
-// The second player's totals with this scratch.
-fn totals_as(
-    chart: &[u8],
-    settings: &[u8],
-    values: &[f64],
-    aim: &mut [f64],
-    aim_no_sliders: &mut [f64],
-    speed: &mut [f64],
-    flashlight: &mut [f64],
-) {
-    let mut out = [0u8; 512];
-    let answer = calls_figures::totals_as(
-        chart,
-        settings,
-        values,
-        aim,
-        aim_no_sliders,
-        speed,
-        flashlight,
-    );
-    let end = lines::put_totals(
-        &mut out[..],
-        0,
-        answer,
-        aim,
-        aim_no_sliders,
-        speed,
-        flashlight,
-    );
-    print_text::show(&out[..], end);
-}
-
-// Reads the lengths before the call.
-fn read_and_total_as(chart: &[u8], settings: &[u8], values: &[f64]) {
-    let mut aim = [lines::UNUSED; 9216];
-    let mut aim_no_sliders = [lines::UNUSED; 9216];
-    let mut speed = [lines::UNUSED; 9216];
-    let mut flashlight = [lines::UNUSED; 9216];
-    let v = print_text::next_length(values.len());
-    let m = print_text::next_length(9216);
-    let n = print_text::next_length(9216);
-    let o = print_text::next_length(9216);
-    let p = print_text::next_length(9216);
-    totals_as(
-        chart,
-        settings,
-        &values[0..v],
-        &mut aim[0..m],
-        &mut aim_no_sliders[0..n],
-        &mut speed[0..o],
-        &mut flashlight[0..p],
-    );
-}
-
-// Readings of the first player's records.
-fn look_at_records(kind: usize, chart: &[u8], records: &[f64]) {
-    let place = print_text::next_long() as usize;
-    let r = print_text::next_length(records.len());
-    match kind {
-        2 => show_record(
-            place,
-            calls_readings::read_record(chart, &records[0..r], place),
-        ),
-        11 => show_aim_parts(
-            place,
-            calls_readings::read_aim_parts(chart, &records[0..r], place),
-        ),
-        _ => show_rhythm(
-            place,
-            calls_readings::read_rhythm(chart, &records[0..r], place),
-        ),
+impl From<usize> for Question {
+    fn from(kind: usize) -> Question {
+        match kind {
+            0 => Question::Open,
+            2 => Question::Record,
+            3 => Question::Values,
+            4 => Question::Totals,
+            10 => Question::Entry,
+            11 => Question::AimParts,
+            _ => Question::Rhythm,
+        }
     }
 }
 
-// Readings of the second player's records.
-fn look_at_records_as(kind: usize, chart: &[u8], settings: &[u8], records: &[f64]) {
-    let place = print_text::next_long() as usize;
-    let r = print_text::next_length(records.len());
-    match kind {
-        2 => show_record(
-            place,
-            calls_readings::read_record_as(chart, settings, &records[0..r], place),
-        ),
-        11 => show_aim_parts(
-            place,
-            calls_readings::read_aim_parts_as(chart, settings, &records[0..r], place),
-        ),
-        _ => show_rhythm(
-            place,
-            calls_readings::read_rhythm_as(chart, settings, &records[0..r], place),
-        ),
+impl From<usize> for Change {
+    fn from(kind: usize) -> Change {
+        match kind {
+            1 => Change::Replace,
+            7 => Change::Insert,
+            _ => Change::Remove,
+        }
     }
 }
 
-// The values of a place, for the first player.
-fn look_at_values(chart: &[u8], values: &[f64]) {
-    let place = print_text::next_long() as usize;
-    let v = print_text::next_length(values.len());
-    show_values(
-        place,
-        calls_readings::read_values(chart, &values[0..v], place),
-    );
+impl From<usize> for Call {
+    fn from(kind: usize) -> Call {
+        match kind {
+            1 | 7 | 8 => Call::Change(Change::from(kind)),
+            5 => Call::Poke,
+            6 => Call::Chart,
+            9 => Call::Lent,
+            13 => Call::Set,
+            0..=15 => Call::First(Question::from(kind)),
+            16..=31 => Call::Second(Question::from(kind - 16)),
+            _ => Call::ChangeBoth(Change::from(kind - 32)),
+        }
+    }
 }
 
-// The values of a place, for the second player.
-fn look_at_values_as(chart: &[u8], settings: &[u8], values: &[f64]) {
-    let place = print_text::next_long() as usize;
+// Writes a line.
+fn show<F: FnOnce(&mut [u8]) -> usize>(put: F)
+    requires { F.IsAlwaysCallable put }
+{
+    let mut out = [0u8; 512];
+    let end = put(&mut out[..]);
+    print_text::show(&out[..], end);
+}
+
+// Opens the chart, for the second player with settings of its own.
+fn open(chart: &[u8], settings: Option<&[u8]>, records: &mut [f64], values: &mut [f64]) {
+    let r = print_text::next_length(records.len());
     let v = print_text::next_length(values.len());
-    show_values(
-        place,
-        calls_readings::read_values_as(chart, settings, &values[0..v], place),
-    );
+    let before = lines::hash_all(chart, records, values);
+    let verdict = match settings {
+        None => calls_editor::open(chart, &mut records[..r], &mut values[..v]),
+        Some(s) => calls_editor::open_as(chart, s, &mut records[..r], &mut values[..v]),
+    };
+    let after = lines::hash_all(chart, records, values);
+    show(|out| lines::put_verdict(out, verdict, b"opened\n", before, after));
+}
+
+// Reads the lengths before the totals.
+fn totals(chart: &[u8], settings: Option<&[u8]>, values: &[f64]) {
+    let mut aim = [lines::UNUSED; SCRATCH];
+    let mut aim_no_sliders = [lines::UNUSED; SCRATCH];
+    let mut speed = [lines::UNUSED; SCRATCH];
+    let mut flashlight = [lines::UNUSED; SCRATCH];
+    let values = &values[..print_text::next_length(values.len())];
+    let aim = &mut aim[..print_text::next_length(SCRATCH)];
+    let aim_no_sliders = &mut aim_no_sliders[..print_text::next_length(SCRATCH)];
+    let speed = &mut speed[..print_text::next_length(SCRATCH)];
+    let flashlight = &mut flashlight[..print_text::next_length(SCRATCH)];
+    let answer = match settings {
+        None => calls_figures::totals(chart, values, aim, aim_no_sliders, speed, flashlight),
+        Some(s) => {
+            calls_figures::totals_as(chart, s, values, aim, aim_no_sliders, speed, flashlight)
+        }
+    };
+    show(|out| lines::put_totals(out, answer, aim, aim_no_sliders, speed, flashlight));
+}
+
+// Reads the place before a record, and the length of the table.
+fn look_at_record(chart: &[u8], settings: Option<&[u8]>, records: &[f64]) {
+    let place = print_text::next_long() as usize;
+    let records = &records[..print_text::next_length(records.len())];
+    let answer = match settings {
+        None => calls_readings::read_record(chart, records, place),
+        Some(s) => calls_readings::read_record_as(chart, s, records, place),
+    };
+    show(|out| {
+        lines::put_answer(out, answer, b"record ", |out, at, x| {
+            print_lines::put_record(out, at, place, x)
+        })
+    });
+}
+
+// The same before the values of a place.
+fn look_at_values(chart: &[u8], settings: Option<&[u8]>, values: &[f64]) {
+    let place = print_text::next_long() as usize;
+    let values = &values[..print_text::next_length(values.len())];
+    let answer = match settings {
+        None => calls_readings::read_values(chart, values, place),
+        Some(s) => calls_readings::read_values_as(chart, s, values, place),
+    };
+    show(|out| {
+        lines::put_answer(out, answer, b"value ", |out, at, x| {
+            print_lines::put_values(out, at, place, x)
+        })
+    });
+}
+
+// The same before aim with its parts.
+fn look_at_aim_parts(chart: &[u8], settings: Option<&[u8]>, records: &[f64]) {
+    let place = print_text::next_long() as usize;
+    let records = &records[..print_text::next_length(records.len())];
+    let answer = match settings {
+        None => calls_readings::read_aim_parts(chart, records, place),
+        Some(s) => calls_readings::read_aim_parts_as(chart, s, records, place),
+    };
+    show(|out| {
+        lines::put_answer(out, answer, b"parts ", |out, at, x| {
+            lines::put_detail(out, at, place, x)
+        })
+    });
+}
+
+// The same before the rhythm value with its comparisons.
+fn look_at_rhythm(chart: &[u8], settings: Option<&[u8]>, records: &[f64]) {
+    let place = print_text::next_long() as usize;
+    let records = &records[..print_text::next_length(records.len())];
+    let answer = match settings {
+        None => calls_readings::read_rhythm(chart, records, place),
+        Some(s) => calls_readings::read_rhythm_as(chart, s, records, place),
+    };
+    show(|out| {
+        lines::put_answer(out, answer, b"rhythm ", |out, at, x| {
+            print_lines::put_rhythm(out, at, place, x)
+        })
+    });
+}
+
+// A call that leaves the chart alone, of the second player with settings of its own.
+fn ask(
+    question: Question,
+    chart: &[u8],
+    settings: Option<&[u8]>,
+    pattern: &[f64; PATTERN],
+    records: &mut [f64],
+    values: &mut [f64],
+) {
+    match question {
+        Question::Open => open(chart, settings, records, values),
+        Question::Record => look_at_record(chart, settings, records),
+        Question::Values => look_at_values(chart, settings, values),
+        Question::Totals => totals(chart, settings, values),
+        Question::Entry => show(|out| lines::next_entry(out, pattern, records, values)),
+        Question::AimParts => look_at_aim_parts(chart, settings, records),
+        Question::Rhythm => look_at_rhythm(chart, settings, records),
+    }
+}
+
+// Reads the second player's settings before its call.
+fn read_and_ask(
+    question: Question,
+    chart: &[u8],
+    pattern: &[f64; PATTERN],
+    records: &mut [f64],
+    values: &mut [f64],
+) {
+    let mut settings = [0u8; 128];
+    if let Some(s) = print_text::read_chart(&mut settings[..]) {
+        ask(
+            question,
+            chart,
+            Some(&settings[..s]),
+            pattern,
+            records,
+            values,
+        );
+    }
 }
 
 // Reads settings, which the second player's calls bring with them.
 fn set() {
     let mut settings = [0u8; 128];
-    print_text::read_chart(&mut settings[..]);
+    let _ = print_text::read_chart(&mut settings[..]);
     io::write_all(1, b"set\n");
 }
 
-// A call of the first player that leaves the chart alone.
-fn first(kind: usize, chart: &[u8], pattern: &[f64], records: &mut [f64], values: &mut [f64]) {
-    match kind {
-        0 => open(chart, records, values),
-        3 => look_at_values(chart, values),
-        4 => read_and_total(chart, values),
-        6 => show_chart(chart),
-        9 => show_lent(chart.len()),
-        10 => show_entry(pattern, records, values),
-        13 => set(),
-        _ => look_at_records(kind, chart, records),
-    }
-}
-
-// A call of the second player.
-fn second(
-    kind: usize,
-    chart: &[u8],
-    settings: &[u8],
-    pattern: &[f64],
-    records: &mut [f64],
-    values: &mut [f64],
-) {
-    match kind {
-        0 => open_as(chart, settings, records, values),
-        3 => look_at_values_as(chart, settings, values),
-        4 => read_and_total_as(chart, settings, values),
-        10 => show_entry(pattern, records, values),
-        _ => look_at_records_as(kind, chart, settings, records),
-    }
-}
-
-// An edit for the first player alone, by its kind.
-fn carry_out(
-    kind: usize,
+// An edit for the first player alone, on tables of these lengths.
+fn change_one(
+    change: Change,
     chart: &mut [u8],
     place: usize,
     object: &[u8],
     records: &mut [f64],
     values: &mut [f64],
 ) -> Result<(), Refusal> {
-    match kind {
-        1 => calls_editor::replace(chart, place, object, records, values),
-        7 => calls_editor::insert(chart, place, object, records, values),
-        _ => calls_editor::remove(chart, place, records, values),
+    match change {
+        Change::Replace => calls_editor::replace(chart, place, object, records, values),
+        Change::Insert => calls_editor::insert(chart, place, object, records, values),
+        Change::Remove => calls_editor::remove(chart, place, records, values),
     }
 }
 
 // Carries out one edit on the first player's tables of the lengths that follow.
 fn edit(
-    kind: usize,
+    change: Change,
     chart: &mut [u8],
     place: usize,
     object: &[u8],
@@ -334,21 +283,21 @@ fn edit(
     let r = print_text::next_length(records.len());
     let v = print_text::next_length(values.len());
     let before = lines::hash_all(chart, records, values);
-    let verdict = carry_out(
-        kind,
+    let verdict = change_one(
+        change,
         chart,
         place,
         object,
-        &mut records[0..r],
-        &mut values[0..v],
+        &mut records[..r],
+        &mut values[..v],
     );
     let after = lines::hash_all(chart, records, values);
-    show_verdict(verdict, b"accepted\n", before, after);
+    show(|out| lines::put_verdict(out, verdict, b"accepted\n", before, after));
 }
 
-// An edit for both players, by its kind.
-fn carry_out_both(
-    kind: usize,
+// An edit for both players, on tables of these lengths.
+fn change_both(
+    change: Change,
     chart: &mut [u8],
     settings: &[u8],
     place: usize,
@@ -358,14 +307,14 @@ fn carry_out_both(
     records_2: &mut [f64],
     values_2: &mut [f64],
 ) -> Result<(), Refusal> {
-    match kind {
-        33 => calls_editor::replace_both(
+    match change {
+        Change::Replace => calls_editor::replace_both(
             chart, settings, place, object, records, values, records_2, values_2,
         ),
-        39 => calls_editor::insert_both(
+        Change::Insert => calls_editor::insert_both(
             chart, settings, place, object, records, values, records_2, values_2,
         ),
-        _ => calls_editor::remove_both(
+        Change::Remove => calls_editor::remove_both(
             chart, settings, place, records, values, records_2, values_2,
         ),
     }
@@ -385,7 +334,7 @@ fn hash_both(
 
 // Carries out one edit on both players' tables of the lengths that follow.
 fn edit_both(
-    kind: usize,
+    change: Change,
     chart: &mut [u8],
     settings: &[u8],
     place: usize,
@@ -400,34 +349,33 @@ fn edit_both(
     let r_2 = print_text::next_length(records_2.len());
     let v_2 = print_text::next_length(values_2.len());
     let before = hash_both(chart, records, values, records_2, values_2);
-    let verdict = carry_out_both(
-        kind,
+    let verdict = change_both(
+        change,
         chart,
         settings,
         place,
         object,
-        &mut records[0..r],
-        &mut values[0..v],
-        &mut records_2[0..r_2],
-        &mut values_2[0..v_2],
+        &mut records[..r],
+        &mut values[..v],
+        &mut records_2[..r_2],
+        &mut values_2[..v_2],
     );
     let after = hash_both(chart, records, values, records_2, values_2);
-    show_verdict(verdict, b"accepted\n", before, after);
+    show(|out| lines::put_verdict(out, verdict, b"accepted\n", before, after));
 }
 
 // Reads place and object before an edit for the first player.
-fn read_and_edit(kind: usize, chart: &mut [u8], records: &mut [f64], values: &mut [f64]) {
+fn read_and_edit(change: Change, chart: &mut [u8], records: &mut [f64], values: &mut [f64]) {
     let mut object = [0u8; 128];
     let place = print_text::next_long() as usize;
-    let n = print_text::read_chart(&mut object[..]);
-    if n <= 128 {
-        edit(kind, chart, place, &object[0..n], records, values);
+    if let Some(n) = print_text::read_chart(&mut object[..]) {
+        edit(change, chart, place, &object[..n], records, values);
     }
 }
 
 // Reads settings, place and object before an edit for both.
 fn read_and_edit_both(
-    kind: usize,
+    change: Change,
     chart: &mut [u8],
     records: &mut [f64],
     values: &mut [f64],
@@ -439,16 +387,13 @@ fn read_and_edit_both(
     let s = print_text::read_chart(&mut settings[..]);
     let place = print_text::next_long() as usize;
     let n = print_text::read_chart(&mut object[..]);
-    if 128 < s {
-        return;
-    }
-    if n <= 128 {
+    if let (Some(s), Some(n)) = (s, n) {
         edit_both(
-            kind,
+            change,
             chart,
-            &settings[0..s],
+            &settings[..s],
             place,
-            &object[0..n],
+            &object[..n],
             records,
             values,
             records_2,
@@ -457,153 +402,102 @@ fn read_and_edit_both(
     }
 }
 
-// Reads the second player's settings before its call.
-fn read_and_second(
-    kind: usize,
-    chart: &[u8],
-    pattern: &[f64],
-    records: &mut [f64],
-    values: &mut [f64],
-) {
-    let mut settings = [0u8; 128];
-    let s = print_text::read_chart(&mut settings[..]);
-    if s <= 128 {
-        second(kind, chart, &settings[0..s], pattern, records, values);
-    }
-}
-
 // Another hand writes to the chart.
 fn poke(chart: &mut [u8]) {
     let mut bytes = [0u8; 1024];
     let offset = print_text::next_word();
-    let n = print_text::read_chart(&mut bytes[..]);
-    if n <= 1024 {
-        print_text::put_all(chart, offset, &bytes[0..n]);
+    if let Some(n) = print_text::read_chart(&mut bytes[..]) {
+        print_text::put_all(chart, offset, &bytes[..n]);
         io::write_all(1, b"poked\n");
     }
 }
 
-// A call that writes to the chart, by its kind.
-fn write(
-    kind: usize,
+// One call.
+fn answer(
+    call: Call,
     chart: &mut [u8],
+    pattern: &[f64; PATTERN],
     records: &mut [f64],
     values: &mut [f64],
     records_2: &mut [f64],
     values_2: &mut [f64],
 ) {
-    if 32 <= kind {
-        read_and_edit_both(kind, chart, records, values, records_2, values_2);
-    } else if kind == 5 {
-        poke(chart);
-    } else {
-        read_and_edit(kind, chart, records, values);
+    match call {
+        Call::First(question) => ask(question, chart, None, pattern, records, values),
+        Call::Second(question) => read_and_ask(question, chart, pattern, records_2, values_2),
+        Call::Change(change) => read_and_edit(change, chart, records, values),
+        Call::ChangeBoth(change) => {
+            read_and_edit_both(change, chart, records, values, records_2, values_2)
+        }
+        Call::Poke => poke(chart),
+        Call::Chart => show(|out| lines::put_chart(out, chart)),
+        Call::Lent => show(|out| lines::put_lent(out, chart.len())),
+        Call::Set => set(),
     }
 }
 
-// Whether a call writes to the chart.
-fn writes(kind: usize) -> bool {
-    (32 <= kind) | (kind == 1) | (kind == 5) | (kind == 7) | (kind == 8)
-}
-
-// One call, by its kind.
-fn call(
-    kind: usize,
-    chart: &mut [u8],
-    pattern: &[f64],
-    records: &mut [f64],
-    values: &mut [f64],
-    records_2: &mut [f64],
-    values_2: &mut [f64],
-) {
-    if writes(kind) {
-        write(kind, chart, records, values, records_2, values_2);
-    } else if 16 <= kind {
-        read_and_second(kind - 16, chart, pattern, records_2, values_2);
-    } else {
-        first(kind, chart, pattern, records, values);
-    }
-}
-
-// Reads the kind and the buffer's length before the call.
-fn read_and_call(
+// All calls of a script. Before each stand its kind and the length of the buffer that it is lent.
+fn answers(
     memory: &mut [u8],
-    pattern: &[f64],
+    pattern: &[f64; PATTERN],
     records: &mut [f64],
     values: &mut [f64],
     records_2: &mut [f64],
     values_2: &mut [f64],
 ) {
-    let kind = print_text::next_word();
-    let n = print_text::next_length(memory.len());
-    call(
-        kind,
-        &mut memory[0..n],
-        pattern,
-        records,
-        values,
-        records_2,
-        values_2,
-    );
-}
-
-// All calls of a script.
-fn calls(
-    memory: &mut [u8],
-    pattern: &[f64],
-    records: &mut [f64],
-    values: &mut [f64],
-    records_2: &mut [f64],
-    values_2: &mut [f64],
-) {
-    let mut left = print_text::next_length(MOST);
-    while 0 < left {
-        read_and_call(memory, pattern, records, values, records_2, values_2);
-        left -= 1;
+    for _ in 0..print_text::next_length(MOST) {
+        let call = Call::from(print_text::next_word());
+        let n = print_text::next_length(memory.len());
+        answer(
+            call,
+            &mut memory[..n],
+            pattern,
+            records,
+            values,
+            records_2,
+            values_2,
+        );
     }
 }
 
 // The last lines of a script.
 fn finish(
     memory: &[u8],
-    pattern: &[f64],
+    pattern: &[f64; PATTERN],
     records: &[f64],
     values: &[f64],
     records_2: &[f64],
     values_2: &[f64],
 ) {
     let lent = print_text::next_length(memory.len());
-    show_chart(&memory[0..lent]);
+    show(|out| lines::put_chart(out, &memory[..lent]));
     let n = print_text::next_length(lines::ENTRIES);
     let kept = lines::kept(pattern, records, values, n)
-        & lines::kept(pattern, records_2, values_2, n);
-    let mut out = [0u8; 512];
-    let end = lines::put_kept(&mut out[..], 0, kept);
-    print_text::show(&out[..], end);
+        && lines::kept(pattern, records_2, values_2, n);
+    show(|out| lines::put_kept(out, kept));
 }
 
 // The next script, if there is one, with both players' tables filled with the pattern that comes first.
 fn next_script() -> bool {
     let mut memory = [0u8; 65536];
     let mut bytes = [0u8; 640];
-    let mut pattern = [0.0f64; 80];
+    let mut pattern = [0.0f64; PATTERN];
     let mut records = [0.0f64; 16384];
     let mut values = [0.0f64; 5120];
     let mut records_2 = [0.0f64; 16384];
     let mut values_2 = [0.0f64; 5120];
-    let n = print_text::read_chart(&mut memory[..]);
-    if 65536 < n {
+    let Some(n) = print_text::read_chart(&mut memory[..]) else {
         return false;
-    }
+    };
     lines::fill_memory(&mut memory[..], n);
-    print_text::read_numbers(80, &mut bytes[..], &mut pattern[..]);
-    lines::fill(&mut records[..], &pattern[..]);
-    lines::fill(&mut values[..], &pattern[..]);
-    lines::fill(&mut records_2[..], &pattern[..]);
-    lines::fill(&mut values_2[..], &pattern[..]);
-    calls(
+    print_text::read_numbers(PATTERN, &mut bytes[..], &mut pattern[..]);
+    lines::fill(&mut records[..], &pattern);
+    lines::fill(&mut values[..], &pattern);
+    lines::fill(&mut records_2[..], &pattern);
+    lines::fill(&mut values_2[..], &pattern);
+    answers(
         &mut memory[..],
-        &pattern[..],
+        &pattern,
         &mut records[..],
         &mut values[..],
         &mut records_2[..],
@@ -611,7 +505,7 @@ fn next_script() -> bool {
     );
     finish(
         &memory[..],
-        &pattern[..],
+        &pattern,
         &records[..],
         &values[..],
         &records_2[..],
@@ -622,12 +516,9 @@ fn next_script() -> bool {
 
 // Scripts to the end of the input.
 pub fn replay() {
-    let mut left = MOST;
-    while 0 < left {
-        if next_script() {
-            left -= 1;
-        } else {
-            left = 0;
+    for _ in 0..MOST {
+        if !next_script() {
+            break;
         }
     }
 }

@@ -7,28 +7,13 @@ ghost use Rattle.std.specs.Prelude.{◌≤◌, length};
 
 use chart_opening::Refusal;
 use eval_rhythm::Counted;
-
-// Charts that are read at most.
-const MOST: usize = 65536;
-
-// The larger of two numbers.
-fn larger(a: usize, b: usize) -> usize {
-    if a < b { b } else { a }
-}
+use print_lines::Header;
 
 // The line of place j.
 fn put_place(out: &mut [u8], at: usize, j: usize, r: Result<Counted, Refusal>) -> usize {
     match r {
         Err(x) => print_lines::put_refusal(out, at, x),
         Ok(c) => print_lines::put_rhythm(out, at, j, c),
-    }
-}
-
-// The comparisons of an answer.
-fn compared(r: Result<Counted, Refusal>) -> usize {
-    match r {
-        Err(x) => 0,
-        Ok(c) => c.comparisons,
     }
 }
 
@@ -43,13 +28,11 @@ fn put_most(out: &mut [u8], at: usize, most: usize) -> usize {
 fn show_places(out: &mut [u8], chart: &[u8], n: usize, t: &[f64]) {
     let mut end = print_lines::put_count(out, 0, n);
     let mut most: usize = 0;
-    let mut j = 1;
-    while j < n {
+    for j in 1..n {
         let r = calls_readings::read_rhythm(chart, t, j);
         end = print_text::show_if_full(out, end);
         end = put_place(out, end, j, r);
-        most = larger(most, compared(r));
-        j += 1;
+        most = most.max(r.map_or(0, |c| c.comparisons));
     }
     end = put_most(out, end, most);
     print_text::show(out, end);
@@ -59,11 +42,9 @@ fn show_places(out: &mut [u8], chart: &[u8], n: usize, t: &[f64]) {
 fn answer(out: &mut [u8], chart: &[u8], t: &mut [f64])
     requires { 16384 ≤ length t.old }
 {
-    match chart_opening::check(chart, 1024) {
+    match print_lines::open(chart, 1024) {
         Err(r) => print_lines::show_refusal(out, r),
-        Ok(()) => {
-            let lay = chart_opening::layout_of(chart);
-            let set = chart_opening::settings_at(chart, 32);
+        Ok(Header { lay, set }) => {
             osu_records::fill(chart, lay, set, t);
             show_places(out, chart, lay.n, t);
         }
@@ -71,24 +52,12 @@ fn answer(out: &mut [u8], chart: &[u8], t: &mut [f64])
 }
 
 // Charts to the end of the input.
-fn run(out: &mut [u8], chart: &mut [u8], t: &mut [f64])
-    requires { 16384 ≤ length t.old }
-{
-    let mut left = MOST;
-    while 0 < left {
-        let n = print_text::read_chart(chart);
-        if n <= chart.len() {
-            answer(out, &chart[0..n], t);
-            left -= 1;
-        } else {
-            left = 0;
-        }
-    }
-}
-
 fn main() {
     let mut out = io::large_buffer();
-    let mut chart = io::large_buffer();
+    let mut buffer = io::large_buffer();
     let mut t = [0.0f64; 16384];
-    run(&mut out[..], &mut chart[..], &mut t[..]);
+    print_text::each_chart(
+        &mut buffer[..],
+        |chart| answer(&mut out[..], chart, &mut t[..]),
+    );
 }
