@@ -80,8 +80,7 @@ fn evaluate(
         return 0.0;
     }
     let strain_time = strain_time(curr.adjusted_delta_time, hit_window);
-    let doubletapness = 1.0
-        - curr.get_doubletapness(spinner, next.is_some(), next.unwrap_or(curr), hit_window);
+    let doubletapness = 1.0 - curr.get_doubletapness(spinner, next, hit_window);
     let speed_bonus = speed_bonus(strain_time);
     let dist = travel_dist + curr.min_jump_dist;
     let dist_bonus = dist_bonus(dist, curr.small_circle_bonus, autopilot);

@@ -1,6 +1,7 @@
 // The object record: src/osu/difficulty/object.rs.
 #![tactic(auto)]
 
+ghost use Rattle.std.specs.Option.{is_some, unwrap_or};
 ghost use Rattle.std.specs.Prelude.{◌≡◌, ◌<◌};
 ghost use Rattle.osu_object.specs.Osu.{Ready, object_of};
 ghost use Rattle.osu_difficulty_object.specs.Record.{plain_of, placed_of, travel_of, end_cursor, last_cursor, jump_dist, min_jump_time};
@@ -121,20 +122,19 @@ impl OsuDifficultyObject {
     pub fn get_doubletapness(
         self,
         is_spinner: bool,
-        has_next: bool,
-        next: OsuDifficultyObject,
+        next: Option<OsuDifficultyObject>,
         hit_window: f64,
     ) -> f64
-        ensures { result ≡ doubletapness self is_spinner has_next next hit_window }
+        ensures { result ≡ doubletapness self is_spinner (is_some next) (unwrap_or next self) hit_window }
     {
-        if !has_next {
-            return 0.0;
+        match next {
+            None => 0.0,
+            Some(next) => tapness(
+                self.delta_time,
+                next.delta_time,
+                window_of(is_spinner, hit_window),
+            ),
         }
-        tapness(
-            self.delta_time,
-            next.delta_time,
-            window_of(is_spinner, hit_window),
-        )
     }
 }
 

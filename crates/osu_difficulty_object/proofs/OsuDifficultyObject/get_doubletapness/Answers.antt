@@ -2,10 +2,10 @@
 use Rattle.osu_difficulty_object.specs.Reading.{doubletapness}
 use Rattle.osu_difficulty_object.proofs.OsuDifficultyObject.get_doubletapness.Goals as goal
 
-pub returns-then-not-has_next : goal.returns-then-not-has_next
+pub returns-in-None : goal.returns-in-None
 unfolding doubletapness
-returns-then-not-has_next c = simp c.if-not-has_next.true
+returns-in-None c = simp c.in-None.is
 
-pub returns : goal.returns
+pub returns-in-Some : goal.returns-in-Some
 unfolding doubletapness
-returns c = simp (c.tapness.ensures, c.window_of.ensures, c.if-not-has_next.false)
+returns-in-Some c = simp (c.tapness.ensures, c.window_of.ensures, c.in-Some.is)
