@@ -74,6 +74,7 @@ pub struct AimValues {
 }
 
 // The velocity to an object, through the one before it where that is a slider.
+#[tactic(auto, unfolding(crate::specs::Aim::velocity_of))]
 fn velocity(curr: OsuDifficultyObject, last: OsuDifficultyObject, slider: bool) -> f64
     ensures { result ≡ velocity_of curr last slider }
 {
@@ -87,6 +88,7 @@ fn velocity(curr: OsuDifficultyObject, last: OsuDifficultyObject, slider: bool) 
 }
 
 // How wide an angle is: 0 up to 40 degrees, 1 from 140 on.
+#[tactic(auto, unfolding(crate::specs::Aim::wide_angle))]
 fn calc_wide_angle_bonus(angle: f64) -> f64
     ensures { result ≡ wide_angle angle }
 {
@@ -98,6 +100,7 @@ fn calc_wide_angle_bonus(angle: f64) -> f64
 }
 
 // How acute an angle is: 0 from 140 degrees on, 1 up to 40.
+#[tactic(auto, unfolding(crate::specs::Aim::acute_angle))]
 fn calc_acute_angle_bonus(angle: f64) -> f64
     ensures { result ≡ acute_angle angle }
 {
@@ -109,6 +112,7 @@ fn calc_acute_angle_bonus(angle: f64) -> f64
 }
 
 // The bonus of an acute angle, less where the last one was acute too.
+#[tactic(auto, unfolding(crate::specs::Aim::acute_repeated))]
 fn acute_repeated(bonus: f64, last_angle: f64) -> f64
     ensures { result ≡ acute_repeated bonus last_angle }
 {
@@ -117,6 +121,7 @@ fn acute_repeated(bonus: f64, last_angle: f64) -> f64
 }
 
 // The bonus of an acute angle, where rhythms are the same, above 300 beats per minute and more than one diameter.
+#[tactic(auto, unfolding(crate::specs::Aim::acute_of))]
 fn acute(curr: OsuDifficultyObject, last: OsuDifficultyObject, angle_bonus: f64) -> f64
     ensures { result ≡ acute_of curr last angle_bonus }
 {
@@ -137,6 +142,7 @@ fn acute(curr: OsuDifficultyObject, last: OsuDifficultyObject, angle_bonus: f64)
 }
 
 // The bonus of a wide angle, in full for more than one diameter.
+#[tactic(auto, unfolding(crate::specs::Aim::wide_of))]
 fn wide(curr: OsuDifficultyObject, last: OsuDifficultyObject, angle_bonus: f64) -> f64
     ensures { result ≡ wide_of curr last angle_bonus }
 {
@@ -147,6 +153,7 @@ fn wide(curr: OsuDifficultyObject, last: OsuDifficultyObject, angle_bonus: f64) 
 }
 
 // The bonus of wiggling: jumps from a radius to three diameters, with angles below 110 degrees.
+#[tactic(auto, unfolding(crate::specs::Aim::wiggle_of))]
 fn wiggle(curr: OsuDifficultyObject, last: OsuDifficultyObject, angle_bonus: f64) -> f64
     ensures { result ≡ wiggle_of curr last angle_bonus }
 {
@@ -171,6 +178,7 @@ fn wiggle(curr: OsuDifficultyObject, last: OsuDifficultyObject, angle_bonus: f64
 }
 
 // The bonus of a wide angle, less where its ends lie within 1 of each other.
+#[tactic(auto, unfolding(crate::specs::Aim::close_of))]
 fn close(wide: f64, distance: Option<f32>) -> f64
     ensures { result ≡ close_of wide (is_some distance) (unwrap_or distance zero32) }
 {
@@ -181,6 +189,7 @@ fn close(wide: f64, distance: Option<f32>) -> f64
 }
 
 // The bonuses of wide, acute and wiggling angles; none where an angle is missing.
+#[tactic(auto, unfolding(crate::specs::Aim::angles_of))]
 fn angle_bonuses(
     curr: OsuDifficultyObject,
     last: OsuDifficultyObject,
@@ -200,6 +209,7 @@ fn angle_bonuses(
 }
 
 // The bonus of a change between two velocities over the whole objects, by the two adjusted times.
+#[tactic(auto, unfolding(crate::specs::Aim::change_of))]
 fn change(prev_vel: f64, curr_vel: f64, curr_time: f64, last_time: f64) -> f64
     ensures { result ≡ change_of prev_vel curr_vel curr_time last_time }
 {
@@ -216,6 +226,7 @@ fn change(prev_vel: f64, curr_vel: f64, curr_time: f64, last_time: f64) -> f64
 }
 
 // The bonus of a change of velocity; 0 where both velocities are.
+#[tactic(auto, unfolding(crate::specs::Aim::vel_change))]
 fn vel_change(
     curr: OsuDifficultyObject,
     last: OsuDifficultyObject,
@@ -237,6 +248,7 @@ fn vel_change(
 }
 
 // The velocity along the last object where it is a slider, else 0.
+#[tactic(auto, unfolding(crate::specs::Aim::slider_bonus))]
 fn slider_bonus(last: OsuDifficultyObject, slider: bool) -> f64
     ensures { result ≡ slider_bonus last slider }
 {
@@ -267,6 +279,7 @@ fn rule(acute: f64, wide: f64) -> AimRule
 
 impl AimParts {
     // All parts 0, with the rule that decided.
+    #[tactic(auto, unfolding(crate::specs::Aim::no_parts))]
     fn none(rule: AimRule) -> Self
         ensures { result ≡ no_parts rule }
     {
@@ -284,6 +297,7 @@ impl AimParts {
     }
 
     // The value of all parts together.
+    #[tactic(auto, unfolding(crate::specs::Aim::combine_of))]
     pub fn combine(self, with_slider_travel_dist: bool) -> f64
         ensures { result ≡ combine_of self with_slider_travel_dist }
     {
@@ -305,6 +319,7 @@ impl AimParts {
 }
 
 // The parts for three records, none of them ruled out.
+#[tactic(auto, unfolding(crate::specs::Aim::bonuses_of))]
 fn bonuses(
     curr: Sight,
     last: Sight,
@@ -339,6 +354,7 @@ fn bonuses(
 }
 
 // The distance of the object at j - 3 from the last, which stands at `last`, where it has a record.
+#[tactic(auto, unfolding(crate::specs::Aim::spacing_of, osu_object::specs::Base::base_of, osu_object::specs::Osu::object_of))]
 fn spacing(chart: &[u8], lay: Layout, before: usize, j: usize, last: Pos) -> Option<f32>
     requires { (before < j) × Holds chart.now lay × (j < lay.n) }
     ensures has { is_some result ≡ leb 3 before }

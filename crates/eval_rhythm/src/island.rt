@@ -22,6 +22,7 @@ pub struct IslandCount {
 }
 
 // The delta that `add_delta` leaves.
+#[tactic(auto, unfolding(crate::specs::Island::settled_of))]
 pub fn settled(kept: i32, delta: i32) -> i32
     ensures { result ≡ settled_of kept delta }
 {
@@ -34,6 +35,7 @@ pub fn settled(kept: i32, delta: i32) -> i32
 
 impl RhythmIsland {
     // An island of no delta.
+    #[tactic(auto, unfolding(crate::specs::Island::new_island))]
     pub fn new(eps: f64) -> Self
         ensures { result ≡ new_island eps }
     {
@@ -45,6 +47,7 @@ impl RhythmIsland {
     }
 
     // An island of one delta.
+    #[tactic(auto, unfolding(crate::specs::Island::new_with_delta))]
     pub fn new_with_delta(delta: i32, eps: f64) -> Self
         ensures { result ≡ new_with_delta delta eps }
     {
@@ -56,6 +59,7 @@ impl RhythmIsland {
     }
 
     // One more delta.
+    #[tactic(auto, unfolding(crate::specs::Island::add_delta))]
     pub fn add_delta(self, delta: i32) -> Self
         requires { IslandOk 31 self }
         ensures { result ≡ add_delta self delta }
@@ -68,6 +72,7 @@ impl RhythmIsland {
     }
 
     // Both have an even count of deltas, or both an odd one.
+    #[tactic(auto, unfolding(crate::specs::Island::similar_of))]
     pub fn is_similar_polarity(self, other: RhythmIsland) -> bool
         requires { (non_neg self.delta_count ≡ true) × (non_neg other.delta_count ≡ true) }
         ensures { result ≡ similar_of self other }
@@ -86,6 +91,7 @@ impl RhythmIsland {
     }
 
     // The Rust's `==`, by the tolerance of the left one. No `PartialEq`, which may not change to one: `same_of` is no equivalence.
+    #[tactic(auto, unfolding(crate::specs::Island::same_of))]
     pub fn same(self, other: RhythmIsland) -> bool
         ensures { result ≡ same_of self other }
     {
@@ -128,6 +134,7 @@ pub fn search(counts: &[IslandCount], n: usize, island: RhythmIsland) -> (Option
 }
 
 // Counted once more, where the island goes after an equal one.
+#[tactic(auto, unfolding(crate::specs::Counts::bumped_of))]
 pub fn bumped(e: IslandCount, more: bool) -> IslandCount
     requires { CountOk 31 e }
     ensures { result ≡ bumped_of e more }
@@ -143,6 +150,7 @@ pub fn bumped(e: IslandCount, more: bool) -> IslandCount
 }
 
 // What is to stand at an island's place: the entry there, of the first n, or a new one.
+#[tactic(auto, unfolding(crate::specs::Counts::entry_of))]
 pub fn entry_of(
     counts: &[IslandCount],
     n: usize,

@@ -35,6 +35,7 @@ pub struct Counted {
 }
 
 // The cell of place p, from a part of the record table.
+#[tactic(auto, unfolding(crate::specs::Rhythm::cell_of, osu_object::specs::Base::base_of, osu_object::specs::Osu::object_of, osu_records::specs::Rows::record_from))]
 fn cell_at(t: &[f64], part: Part, chart: &[u8], lay: Layout, p: usize) -> Cell
     requires { Holds chart.now lay × (p < lay.n) × Within t.now part p }
     ensures { result ≡ cell_at (object_of chart.now lay) (part_at t.now part) p }
@@ -123,6 +124,7 @@ fn run(
 }
 
 // From the sum, and the doubletapness with the next record.
+#[tactic(auto, unfolding(crate::specs::Rhythm::value_of))]
 fn value(sum: f64, tap: f64) -> f64
     ensures { result ≡ value_of sum tap }
 {

@@ -65,6 +65,7 @@ impl Deltas {
 }
 
 // x times k where b is set.
+#[tactic(auto, unfolding(crate::specs::Step::scaled_of))]
 pub fn scaled(x: f64, b: bool, k: f64) -> f64
     ensures { result ≡ scaled_of x b k }
 {
@@ -72,6 +73,7 @@ pub fn scaled(x: f64, b: bool, k: f64) -> f64
 }
 
 // How much the change of two delta times deserves a bonus.
+#[tactic(auto, unfolding(crate::specs::Step::effective_of))]
 pub fn effective(prev: f64, curr: f64, eps: f64) -> f64
     ensures { result ≡ effective_of prev curr eps }
 {
@@ -92,6 +94,7 @@ pub fn effective(prev: f64, curr: f64, eps: f64) -> f64
 }
 
 // How much the record k places back counts, of hist that may.
+#[tactic(auto, unfolding(crate::specs::Step::decay_of))]
 pub fn decay(start: f64, other: f64, hist: usize, k: usize) -> f64
     requires { (k ≤ hist) × (hist ≤ 32) }
     ensures { result ≡ decay_of start other hist k }
@@ -102,6 +105,7 @@ pub fn decay(start: f64, other: f64, hist: usize, k: usize) -> f64
 }
 
 // The previous increase of speed happened a note ago.
+#[tactic(auto, unfolding(crate::specs::Step::faster_twice))]
 pub fn faster_twice(d: Deltas, eps: f64) -> bool
     ensures { result ≡ faster_twice d eps }
 {
@@ -109,6 +113,7 @@ pub fn faster_twice(d: Deltas, eps: f64) -> bool
 }
 
 // For an island that was counted so often.
+#[tactic(auto, unfolding(crate::specs::Step::factor_of))]
 pub fn factor(delta: i32, count: u32) -> f64
     ensures { result ≡ factor_of delta count }
 {
@@ -118,6 +123,7 @@ pub fn factor(delta: i32, count: u32) -> f64
 }
 
 // The ratio of a switch before the island counts.
+#[tactic(auto, unfolding(crate::specs::Step::switch_ratio))]
 pub fn switch_ratio(
     ratio: f64,
     curr_slider: bool,
@@ -136,6 +142,7 @@ pub fn switch_ratio(
 }
 
 // The ratio after the counts and the doubletap penalty.
+#[tactic(auto, unfolding(crate::specs::Step::last_ratio))]
 pub fn last_ratio(ratio: f64, repeated: bool, delta: i32, count: u32, tap: f64) -> f64
     ensures { result ≡ last_ratio ratio repeated delta count tap }
 {
@@ -155,6 +162,7 @@ pub fn entries_after(n: usize, repeated: bool) -> usize
 
 impl RhythmState {
     // Before the first turn.
+    #[tactic(auto, unfolding(crate::specs::Step::fresh_state))]
     pub fn new(eps: f64) -> Self
         ensures { result ≡ fresh_state eps }
     {
@@ -169,6 +177,7 @@ impl RhythmState {
     }
 
     // The island is still progressing.
+    #[tactic(auto, unfolding(crate::specs::Step::progressed_of))]
     pub fn progressed(self, delta: i32) -> Self
         requires { IslandOk 31 self.island }
         ensures { result ≡ progressed_of self delta }
@@ -180,6 +189,7 @@ impl RhythmState {
     }
 
     // Speeding up: an island begins.
+    #[tactic(auto, unfolding(crate::specs::Step::began_of))]
     pub fn began(self, ratio: f64, delta: i32, eps: f64) -> Self
         ensures { result ≡ began_of self ratio delta eps }
     {
@@ -192,6 +202,7 @@ impl RhythmState {
     }
 
     // A switch: the island ends, and another begins.
+    #[tactic(auto, unfolding(crate::specs::Step::switched_of))]
     pub fn switched(
         self,
         ratio: f64,
@@ -216,6 +227,7 @@ impl RhythmState {
     }
 
     // The delta changes while an island is counted.
+    #[tactic(auto, unfolding(crate::specs::Step::switches_of))]
     pub fn switches(self, d: Deltas, eps: f64) -> bool
         ensures { result ≡ switches_of self d eps }
     {
@@ -223,6 +235,7 @@ impl RhythmState {
     }
 
     // The ratio of a switch before the island counts.
+    #[tactic(auto, unfolding(crate::specs::Step::ratio_of))]
     pub fn ratio(self, d: Deltas, curr: Cell, prev: Cell, eps: f64) -> f64
         requires { (IslandOk 31 self.island) × (IslandOk 31 self.prev_island) }
         ensures { result ≡ ratio_of self (effective_of d.prev d.curr eps) d curr prev eps }
