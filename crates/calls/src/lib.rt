@@ -1,5 +1,5 @@
-// The calls on an opened chart, the plain chart, and the theorem over every list of calls: specs/Statement says what is claimed, proofs/Theorems proves it.
-// The crate has only the sizes of what a call is lent, and what is asked of them.
+// The calls on an opened chart, the plain chart, and the theorem over every list of calls: specs/Statement says what is claimed,
+// proofs/Theorems proves it. The crate has only the sizes of what a call is lent, and what is asked of them.
 #![tactic(auto)]
 
 ghost use Rattle.std.specs.Prelude.{◌≡◌, ◌≤◌, ◌<◌, length};

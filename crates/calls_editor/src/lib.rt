@@ -1,6 +1,7 @@
-// The station's edits of a chart and its tables: open, replace, insert, remove. Nothing is assumed of the caller: each call answers the first condition of
-// its list that is met and changes nothing, or is carried out. A player's settings are the header's, or for the second player 48 bytes that come with the call
-// (open_as); an edit whose name ends in both brings the tables of both players up to date.
+// The station's edits of a chart and its tables: open, replace, insert, remove. Nothing is assumed of the caller: each call answers
+// the first condition of its list that is met and changes nothing, or is carried out. A player's settings are the header's, or for
+// the second player 48 bytes that come with the call (open_as); an edit whose name ends in both brings the tables of both players up
+// to date.
 #![tactic(auto)]
 
 ghost use Rattle.std.specs.Prelude.{◌≡◌, ◌+◌, ◌-◌, ◌*◌, ◌<◌, ◌≤◌, min, max, length};
@@ -62,8 +63,8 @@ pub fn open(chart: &[u8], records: &mut [f64], values: &mut [f64]) -> Result<(),
     open_as(chart, calls::own_settings(chart)?, records, values)
 }
 
-// Makes anew what an edit at a place can have changed, under a player's settings: the records from that place to before records_end from the chart, and the
-// values from the place before it to before values_end from the records.
+// Makes anew what an edit at a place can have changed, under a player's settings: the records from that place to before records_end
+// from the chart, and the values from the place before it to before values_end from the records.
 fn bring_up_to_date(
     chart: &[u8],
     set: Settings,

@@ -1,6 +1,7 @@
-// The station's figures of a chart: what is worked out from the values of all places, with scratch. Nothing is assumed of the caller: each call answers the
-// first condition of its list that is met and changes nothing, or is carried out and leaves all scratch 0. Times come from the chart. A figure whose name ends
-// in as is the second player's, with that player's settings; the first player's settings are the header's.
+// The station's figures of a chart: what is worked out from the values of all places, with scratch. Nothing is assumed of the
+// caller: each call answers the first condition of its list that is met and changes nothing, or is carried out and leaves all
+// scratch 0. Times come from the chart. A figure whose name ends in as is the second player's, with that player's settings; the
+// first player's settings are the header's.
 #![tactic(auto)]
 
 ghost use Rattle.std.specs.Prelude.{◌≡◌, [], ◌/◌, length, Ok, Err};
@@ -20,6 +21,8 @@ use skills::Skills;
 use skills_counts::ObjectCounts;
 use skills_stars::{Asked, Ratings};
 
+// The scratch stays four slices: the C interface lends four, and crate skills takes four.
+
 // What a figure reads of a chart besides its values: where its objects lie, and the player's clock rate.
 #[derive(Clone, Copy)]
 struct Timed {
@@ -27,7 +30,8 @@ struct Timed {
     clock_rate: f64,
 }
 
-// Conditions 1 to 7 for the second player, with the value table and the scratch that are lent; and what a figure reads of a chart that meets none.
+// Conditions 1 to 7 for the second player, with the value table and the scratch that are lent; and what a figure reads of a chart
+// that meets none.
 fn check_lent(
     chart: &[u8],
     settings: &[u8],
@@ -266,7 +270,8 @@ pub fn totals_to(
     )
 }
 
-// The totals reached after every number of objects from 0 to N, each in its entry of the list, over the values in the table, for the second player.
+// The totals reached after every number of objects from 0 to N, each in its entry of the list, over the values in the table, for the
+// second player.
 pub fn totals_while_playing_as(
     chart: &[u8],
     settings: &[u8],
@@ -346,7 +351,8 @@ pub fn totals_while_playing(
     )
 }
 
-// The ratings and the stars under the mods and with the numbers that come with the call, over the values in the table, for the second player.
+// The ratings and the stars under the mods and with the numbers that come with the call, over the values in the table, for the
+// second player.
 pub fn ratings_as(
     chart: &[u8],
     settings: &[u8],

@@ -1,6 +1,7 @@
-// The station's readings of a place: its record, its values, and what is worked out from the records there. Nothing is assumed of the caller: each reading
-// answers the first of conditions 1, 7 and 8 that is met, and writes nothing. A reading whose name ends in as is the second player's, with that player's
-// settings, of which another length is 2 right after 1; the first player's settings are the header's.
+// The station's readings of a place: its record, its values, and what is worked out from the records there. Nothing is assumed of
+// the caller: each reading answers the first of conditions 1, 7 and 8 that is met, and writes nothing. A reading whose name ends in
+// as is the second player's, with that player's settings, of which another length is 2 right after 1; the first player's settings
+// are the header's.
 #![tactic(auto)]
 
 ghost use Rattle.std.specs.Prelude.{◌≡◌, [], ◌/◌, ◌≤◌, ◌<◌, length};
@@ -170,7 +171,8 @@ pub fn read_rhythm(chart: &[u8], records: &[f64], place: usize) -> Result<Counte
     read_rhythm_as(chart, calls::own_settings(chart)?, records, place)
 }
 
-// The rhythm value of a place, and how often an island was compared with a kept one for it, from the records of the table, for the second player.
+// The rhythm value of a place, and how often an island was compared with a kept one for it, from the records of the table, for the
+// second player.
 pub fn read_rhythm_as(
     chart: &[u8],
     settings: &[u8],

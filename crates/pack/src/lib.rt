@@ -1,5 +1,6 @@
-// Packs in order: the charts of a pack are opened and rated, and a list of offsets into the pack is put in order, in its place. Nothing is assumed of the
-// caller: a call answers the first condition that the first such chart of the list meets and changes nothing, or is carried out and leaves all scratch 0.
+// Packs in order: the charts of a pack are opened and rated, and a list of offsets into the pack is put in order, in its place.
+// Nothing is assumed of the caller: a call answers the first condition that the first such chart of the list meets and changes
+// nothing, or is carried out and leaves all scratch 0.
 #![tactic(auto)]
 
 ghost use Rattle.std.specs.Prelude.{◌≡◌, map, ◌+◌, ◌*◌, ◌≤◌, ◌<◌, length, get_or, Ok};
@@ -177,16 +178,13 @@ fn rate_listed(
     )
 }
 
-// Writes a chart's numbers into row i.
+// Writes a chart's numbers into row i. Keys stand as rows, since specs/Listing of pack_order, which may not change, orders rows.
 fn put_key(keys: &mut [f64], i: usize, k: Key)
     requires { key_width * i + key_width ≤ length keys.old }
     ensures { keys.new ≡ put (key_width * i) (key_row k) keys.old }
 {
     let at = KEY_WIDTH * i;
-    keys[at] = k.stars;
-    keys[at + 1] = k.aim;
-    keys[at + 2] = k.speed;
-    keys[at + 3] = k.flashlight;
+    keys[at..at + KEY_WIDTH].copy_from_slice(&[k.stars, k.aim, k.speed, k.flashlight]);
 }
 
 // Opens and rates the listed charts, each once, in the list's order.
@@ -238,7 +236,8 @@ fn clear_all(aim: &mut [f64], aim_no_sliders: &mut [f64], speed: &mut [f64], fla
     skills::clear(flashlight);
 }
 
-// Rates the listed charts and puts the list in order, where none is refused. The first `first` entries and the others are merged if they are in order each.
+// Rates the listed charts and puts the list in order, where none is refused. The first `first` entries and the others are merged if
+// they are in order each.
 fn list_all(
     pack: &[u8],
     list: &mut [usize],
@@ -300,7 +299,8 @@ pub fn check(
     check_all(pack, list, entries, short, asked.is_finite())
 }
 
-// Two lists of offsets that lie one behind the other, the first of them `first` long, whether or not they were ranked: the listing of both as one.
+// Two lists of offsets that lie one behind the other, the first of them `first` long, whether or not they were ranked: the listing
+// of both as one.
 pub fn join(
     pack: &[u8],
     list: &mut [usize],
