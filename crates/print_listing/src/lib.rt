@@ -40,10 +40,8 @@ fn put_places(out: &mut [u8], at: usize, chart: &[u8], values: &[f64], n: usize)
     ensures { Puts (places_text (row 5 values.now) (n - 1)) out.old at out.new result }
 {
     let mut end = at;
-    let mut j = 1;
-    while j < n {
+    for j in 1..n {
         end = put_place(out, end, chart, values, j);
-        j += 1;
     }
     end
 }

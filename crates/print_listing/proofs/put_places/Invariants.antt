@@ -6,7 +6,4 @@ use Rattle.print_listing.specs.List.{places_text}
 use Rattle.print_listing.proofs.put_places.Given as goal
 
 abbrev pub invariant-loop-j : goal.invariant-loop-j
-invariant-loop-j l = (1 ≤ l.j) × (l.j ≤ max 1 l.n) × Puts (places_text (row 5 l.values) (l.j - 1)) l.initial.out l.at l.out l.end
-
-abbrev pub decreases-loop-j : goal.decreases-loop-j
-decreases-loop-j l = l.n - l.j
+invariant-loop-j l = (l.j ≤ max 1 l.n) × Puts (places_text (row 5 l.values) (l.j - 1)) l.initial.out l.at l.out l.end
