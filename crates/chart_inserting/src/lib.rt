@@ -19,23 +19,21 @@ fn put_word(chart: &mut [u8], at: usize, x: usize)
     requires { at + 4 ≤ length chart.old }
     ensures { chart.new ≡ put_word at x chart.old }
 {
-    chart[at] = (x % 0x100) as u8;
-    chart[at + 1] = (x / 0x100 % 0x100) as u8;
-    chart[at + 2] = (x / 0x1_0000 % 0x100) as u8;
-    chart[at + 3] = (x / 0x100_0000 % 0x100) as u8;
+    chart_replacing::put(chart, at, &x.to_le_bytes()[..4]);
 }
 
 // Writes the count, the offsets and the length of a chart with n objects.
+#[tactic(auto, unfolding(crate::specs::Insert::recounted))]
 fn recount(chart: &mut [u8], lay: Layout, n: usize)
     requires { (header_size ≤ length chart.old) × (length_for lay n < 2 ^ 64) }
     ensures { chart.new ≡ recounted lay n chart.old }
 {
     let nested_at = chart_fields::HEADER_SIZE + lay.object_size * n;
-    let points_at = nested_at + 24 * lay.nested;
+    let points_at = nested_at + chart_fields::NESTED_SIZE * lay.nested;
     put_word(chart, 0, n);
     put_word(chart, 16, nested_at);
     put_word(chart, 20, points_at);
-    put_word(chart, 24, points_at + 16 * lay.points);
+    put_word(chart, 24, points_at + chart_fields::POINT_SIZE * lay.points);
 }
 
 // ---- Insertion
@@ -45,34 +43,36 @@ fn no_room(chart: &[u8], lay: Layout) -> bool
     requires { (lay ≡ layout_of chart.now) × (header_ok chart.now ≡ true) }
     ensures { result ≡ no_room chart.now }
 {
-    (chart.len() < num_floats::count_at(chart, 24) + lay.object_size) | (16_384 <= lay.n)
+    (chart.len() < num_floats::count_at(chart, 24) + lay.object_size)
+        | (chart_fields::MOST_OBJECTS <= lay.n)
 }
 
 // The start at place j of the chart with an object of these fields at a place.
+#[tactic(auto, unfolding(crate::specs::Local::start_with))]
 fn start_with(chart: &[u8], lay: Layout, place: usize, f: Fields, j: usize) -> f64
     requires { Holds chart.now lay × (place ≤ lay.n) × (j ≤ lay.n) }
     ensures { result ≡ start_with chart.now lay place f j }
 {
     if j == place {
-        return f.start;
+        f.start
+    } else {
+        let old = if j < place { j } else { j - 1 };
+        chart_fields::fields_of(chart, lay, old).start
     }
-    let old = if j < place { j } else { j - 1 };
-    let o = chart_fields::fields_of(chart, lay, old);
-    o.start
 }
 
 // Condition 6 of that chart.
+#[tactic(auto, unfolding(crate::specs::Local::long_with))]
 pub fn long_with(chart: &[u8], lay: Layout, clock: f64, place: usize, f: Fields) -> bool
     requires { Holds chart.now lay × (place ≤ lay.n) }
     ensures { result ≡ long_with chart.now lay clock place f }
 {
-    let n = lay.n;
-    if n < 1 {
-        return false;
-    }
-    let last = start_with(chart, lay, place, f, n);
-    let first = start_with(chart, lay, place, f, 1);
-    chart_opening::far_apart(last, first, clock)
+    1 <= lay.n
+        && chart_opening::far_apart(
+            start_with(chart, lay, place, f, lay.n),
+            start_with(chart, lay, place, f, 1),
+            clock,
+        )
 }
 
 // Conditions 8 and 9, then 3 to 6 for the chart as it would become; the chart as it is meets none of 1 to 6.
@@ -90,7 +90,7 @@ fn check_insert_at(chart: &[u8], place: usize, object: &[u8]) -> Result<(), Refu
     if object.len() != lay.object_size {
         return Err(Refusal::Object(place));
     }
-    let settings = chart_opening::settings_at(chart, 32);
+    let settings = chart_opening::settings_at(chart, chart_opening::SETTINGS_START);
     let f = chart_fields::fields_at(object, 0, lay.object_size);
     let long = long_with(chart, lay, settings.clock_rate, place, f);
     chart_replacing::check_object(chart, lay, place, place, f, long)
@@ -140,44 +140,42 @@ pub fn insert(chart: &mut [u8], place: usize, object: &[u8], entries: usize) -> 
 // ---- Removal
 
 // Condition 5 of the chart without the object at a place: there the object after it starts before the one before it.
+#[tactic(auto, unfolding(crate::specs::Local::falls_without))]
 fn falls_without(chart: &[u8], lay: Layout, place: usize) -> bool
     requires { Holds chart.now lay × (place < lay.n) }
     ensures { result ≡ falls_without chart.now lay place }
 {
     let next = place + 1;
-    let n = lay.n;
-    if n <= next {
-        return false;
-    }
-    let after = chart_fields::fields_of(chart, lay, next);
-    chart_replacing::falls_here(chart, lay, place, after)
+    next < lay.n
+        && chart_replacing::falls_here(chart, lay, place, chart_fields::fields_of(chart, lay, next))
 }
 
 // The start at place j of that chart.
+#[tactic(auto, unfolding(crate::specs::Local::start_without))]
 fn start_without(chart: &[u8], lay: Layout, place: usize, j: usize) -> f64
     requires { Holds chart.now lay × (j + 1 < lay.n) }
     ensures { result ≡ start_without chart.now lay place j }
 {
     let old = if j < place { j } else { j + 1 };
-    let o = chart_fields::fields_of(chart, lay, old);
-    o.start
+    chart_fields::fields_of(chart, lay, old).start
 }
 
 // Condition 6 of that chart.
+#[tactic(auto, unfolding(crate::specs::Local::long_without))]
 pub fn long_without(chart: &[u8], lay: Layout, clock: f64, place: usize) -> bool
     requires { Holds chart.now lay }
     ensures { result ≡ long_without chart.now lay clock place }
 {
-    let n = lay.n;
-    if n < 3 {
-        return false;
-    }
-    let last = start_without(chart, lay, place, n - 2);
-    let first = start_without(chart, lay, place, 1);
-    chart_opening::far_apart(last, first, clock)
+    3 <= lay.n
+        && chart_opening::far_apart(
+            start_without(chart, lay, place, lay.n - 2),
+            start_without(chart, lay, place, 1),
+            clock,
+        )
 }
 
 // Conditions 3 to 6 of that chart: only what the removal can have changed is tested.
+#[tactic(auto, unfolding(crate::specs::Local::remove_local, chart_opening::specs::Conditions::first_of))]
 fn check_without(chart: &[u8], lay: Layout, clock: f64, place: usize) -> Result<(), Refusal>
     requires { Holds chart.now lay × (place < lay.n) }
     ensures { result ≡ first_of (remove_local chart.now lay clock place) }
@@ -200,7 +198,7 @@ fn check_remove_at(chart: &[u8], place: usize) -> Result<(), Refusal>
     if lay.n <= place {
         return Err(Refusal::Place);
     }
-    let settings = chart_opening::settings_at(chart, 32);
+    let settings = chart_opening::settings_at(chart, chart_opening::SETTINGS_START);
     check_without(chart, lay, settings.clock_rate, place)
 }
 

@@ -22,13 +22,9 @@ pub const SETTINGS_SIZE: usize = 48;
 pub fn header_ok_as(chart: &[u8], settings: &[u8]) -> bool
     ensures { result ≡ header_ok (under settings.now chart.now) }
 {
-    if !chart_opening::frame_ok(chart) {
-        return false;
-    }
-    if settings.len() != SETTINGS_SIZE {
-        return true;
-    }
-    chart_opening::flags_ok(num_floats::u32_at(settings, 44))
+    chart_opening::frame_ok(chart)
+        && (settings.len() != SETTINGS_SIZE
+            || chart_opening::flags_ok(num_floats::u32_at(settings, 44)))
 }
 
 // Conditions 1 to 7 for the second player; entries is the number of entries of that player's shortest table.

@@ -1,4 +1,3 @@
-pub mod Copy
 pub mod Local
 pub mod Searched
 pub mod Accepted

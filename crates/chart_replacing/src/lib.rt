@@ -17,40 +17,30 @@ pub fn put(d: &mut [u8], at: usize, s: &[u8])
     requires { at + length s.now ≤ length d.old }
     ensures { d.new ≡ parts.put at s.now d.old }
 {
-    let mut k = 0;
-    while k < s.len() {
-        d[at + k] = s[k];
-        k += 1;
-    }
+    d[at..at + s.len()].copy_from_slice(s);
 }
 
 // Condition 5 at the new object's place: it starts before its predecessor.
+#[tactic(auto, unfolding(crate::specs::Local::falls_here))]
 pub fn falls_here(chart: &[u8], lay: Layout, place: usize, f: Fields) -> bool
     requires { Holds chart.now lay × (place ≤ lay.n) }
     ensures { result ≡ falls_here chart.now lay place f }
 {
-    if place == 0 {
-        return false;
-    }
-    let before = chart_fields::fields_of(chart, lay, place - 1);
-    f.start < before.start
+    0 < place && f.start < chart_fields::fields_of(chart, lay, place - 1).start
 }
 
 // Condition 5 at the place after: the object that then stands there, at place next until now, starts before the new one.
+#[tactic(auto, unfolding(crate::specs::Local::falls_next))]
 fn falls_next(chart: &[u8], lay: Layout, next: usize, f: Fields) -> bool
     requires { Holds chart.now lay }
     ensures { result ≡ falls_next chart.now lay next f }
 {
-    let n = lay.n;
-    if n <= next {
-        return false;
-    }
-    let after = chart_fields::fields_of(chart, lay, next);
-    after.start < f.start
+    next < lay.n && chart_fields::fields_of(chart, lay, next).start < f.start
 }
 
 // Conditions 3 to 6 for the chart with an object of these fields at a place and the old one of place next behind it: only what that object can have
 // changed is tested. The answer of 6 is given.
+#[tactic(auto, unfolding(crate::specs::Local::object_conditions, chart_opening::specs::Conditions::first_of))]
 pub fn check_object(
     chart: &[u8],
     lay: Layout,
@@ -81,29 +71,30 @@ pub fn check_object(
 }
 
 // The start at place j of the new chart.
+#[tactic(auto, unfolding(crate::specs::Local::new_start))]
 fn new_start(chart: &[u8], lay: Layout, place: usize, f: Fields, j: usize) -> f64
     requires { Holds chart.now lay × (j < lay.n) }
     ensures { result ≡ new_start chart.now lay place f j }
 {
     if j == place {
-        return f.start;
+        f.start
+    } else {
+        chart_fields::fields_of(chart, lay, j).start
     }
-    let o = chart_fields::fields_of(chart, lay, j);
-    o.start
 }
 
 // Condition 6 of the new chart.
+#[tactic(auto, unfolding(crate::specs::Local::new_too_long))]
 pub fn new_too_long(chart: &[u8], lay: Layout, clock: f64, place: usize, f: Fields) -> bool
     requires { Holds chart.now lay }
     ensures { result ≡ new_too_long chart.now lay clock place f }
 {
-    let n = lay.n;
-    if n < 2 {
-        return false;
-    }
-    let last = new_start(chart, lay, place, f, n - 1);
-    let first = new_start(chart, lay, place, f, 1);
-    chart_opening::far_apart(last, first, clock)
+    2 <= lay.n
+        && chart_opening::far_apart(
+            new_start(chart, lay, place, f, lay.n - 1),
+            new_start(chart, lay, place, f, 1),
+            clock,
+        )
 }
 
 // Conditions 3 to 6 for the chart with an object of these fields at a place.
@@ -128,7 +119,7 @@ fn check_at(chart: &[u8], place: usize, object: &[u8]) -> Result<(), Refusal>
     if object.len() != lay.object_size {
         return Err(Refusal::Object(place));
     }
-    let settings = chart_opening::settings_at(chart, 32);
+    let settings = chart_opening::settings_at(chart, chart_opening::SETTINGS_START);
     let f = chart_fields::fields_at(object, 0, lay.object_size);
     check_new(chart, lay, settings.clock_rate, place, f)
 }
