@@ -40,7 +40,7 @@ fn asked_of(s: &[u8]) -> Asked
         num_floats::f64_at(s, 40),
     );
     Asked {
-        mods: mods,
+        mods,
         approach_rate: num_floats::f64_at(s, 8),
         overall_difficulty: num_floats::f64_at(s, 16),
         base_multiplier: num_floats::f64_at(s, 24),
@@ -57,53 +57,44 @@ fn put_ratings(out: &mut [u8], r: Ratings) -> usize {
     print_text::put(out, stars, b'\n')
 }
 
-// The line of a chart that is opened.
-fn put_opened(out: &mut [u8], chart: &[u8], values: &[f64], asked: Asked) -> usize {
+// The ratings of a chart. More bytes than the limit are refused before any check.
+fn rate(chart: &[u8], asked: Asked) -> Result<Ratings, Refusal> {
+    if LIMIT < chart.len() {
+        return Err(Refusal::Table);
+    }
+    let mut records = [0.0f64; RECORDS];
+    let mut values = [0.0f64; VALUES];
+    calls_editor::open(chart, &mut records[..], &mut values[..])?;
     let mut aim = [0.0f64; SCRATCH];
     let mut aim_no_sliders = [0.0f64; SCRATCH];
     let mut speed = [0.0f64; SCRATCH];
     let mut flashlight = [0.0f64; SCRATCH];
-    match calls_figures::ratings(
+    calls_figures::ratings(
         chart,
-        values,
+        &values[..],
         asked,
         &mut aim[..],
         &mut aim_no_sliders[..],
         &mut speed[..],
         &mut flashlight[..],
-    ) {
-        Err(r) => print_lines::put_refusal(out, 0, r),
-        Ok(r) => put_ratings(out, r),
-    }
+    )
 }
 
-// The line of a chart. More bytes than the limit are refused before any check.
-fn put_chart(out: &mut [u8], chart: &[u8], asked: Asked) -> usize {
-    if LIMIT < chart.len() {
-        return print_lines::put_refusal(out, 0, Refusal::Table);
+// The ratings of an input. What ends before a chart begins has none: its header is wrong.
+fn rate_input(input: &[u8]) -> Result<Ratings, Refusal> {
+    if input.len() < ASKED {
+        return Err(Refusal::Header);
     }
-    let mut records = [0.0f64; RECORDS];
-    let mut values = [0.0f64; VALUES];
-    match calls_editor::open(chart, &mut records[..], &mut values[..]) {
-        Err(r) => print_lines::put_refusal(out, 0, r),
-        Ok(()) => put_opened(out, chart, &values[..], asked),
-    }
-}
-
-// The line of an input. What ends before a chart begins has none: its header is wrong.
-fn put_input(out: &mut [u8], input: &[u8]) -> usize {
-    let n = input.len();
-    if n < ASKED {
-        return print_lines::put_refusal(out, 0, Refusal::Header);
-    }
-    let asked = asked_of(input);
-    put_chart(out, &input[ASKED..n], asked)
+    rate(&input[ASKED..], asked_of(input))
 }
 
 // Rates what standard input has, and writes it.
 fn run(out: &mut [u8], input: &mut [u8]) {
     let n = io::read_full(0, input);
-    let end = put_input(out, &input[..n]);
+    let end = match rate_input(&input[..n]) {
+        Ok(r) => put_ratings(out, r),
+        Err(r) => print_lines::put_refusal(out, 0, r),
+    };
     print_text::show(out, end);
 }
 
