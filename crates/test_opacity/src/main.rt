@@ -31,12 +31,9 @@ fn answer() -> bool {
 }
 
 fn main() {
-    let mut left = MOST;
-    while 0 < left {
-        if answer() {
-            left -= 1;
-        } else {
-            left = 0;
+    for _ in 0..MOST {
+        if !answer() {
+            break;
         }
     }
 }
