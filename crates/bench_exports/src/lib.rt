@@ -93,21 +93,19 @@ fn code(number: usize, place: usize) -> u64 {
     (number % 16) as u64 * 0x1_0000_0000 + (place % 0x1_0000_0000) as u64
 }
 
-// One evaluator's value of a place: 0 aim, 1 speed, 2 rhythm, 3 flashlight.
+// One evaluator's value of a place: 0 aim, 1 speed, 2 rhythm, 3 flashlight. The numbers are those of the C interface.
 fn value_at(which: usize, t: &[f64], chart: &[u8], lay: Layout, set: Settings, j: usize) -> f64
     requires { Ready chart.now lay × (1 ≤ j) × (j < lay.n) × (16 * lay.n ≤ length t.now) }
 {
-    if which == 0 {
-        return eval_aim::evaluate_place(t, chart, lay, j, true);
+    match which {
+        0 => eval_aim::evaluate_place(t, chart, lay, j, true),
+        1 => eval_speed::evaluate_place(t, chart, lay, j, set.hit_window, set.autopilot),
+        2 => eval_rhythm::evaluate_place(t, chart, lay, j, set.hit_window),
+        _ => {
+            let light = eval_flashlight::evaluator_of(set);
+            light.evaluate_place(t, chart, lay, j, set.hidden)
+        }
     }
-    if which == 1 {
-        return eval_speed::evaluate_place(t, chart, lay, j, set.hit_window, set.autopilot);
-    }
-    if which == 2 {
-        return eval_rhythm::evaluate_place(t, chart, lay, j, set.hit_window);
-    }
-    let light = eval_flashlight::evaluator_of(set);
-    light.evaluate_place(t, chart, lay, j, set.hidden)
 }
 
 // The sum of one evaluator's values over all places.
@@ -116,10 +114,8 @@ fn sum_values(which: usize, t: &[f64], chart: &[u8], lay: Layout, set: Settings)
 {
     let n = lay.n;
     let mut sum = 0.0;
-    let mut j = 1;
-    while j < n {
-        sum = sum + value_at(which, t, chart, lay, set, j);
-        j += 1;
+    for j in 1..n {
+        sum += value_at(which, t, chart, lay, set, j);
     }
     sum
 }
