@@ -55,6 +55,7 @@ fn one(s: &[u8; 88], kind: u32) -> f64 {
     let c = number(s, 2);
     let mods = mods_of(s, c, number(s, 3));
     let by = calculator(s, mods);
+    // The numbers are the input's, and each is named here alone: an enum would give the list twice.
     match kind {
         1 => skills_rating::cbrt(a),
         2 => OsuRatingCalculator::calculate_difficulty_rating(a),
@@ -81,7 +82,7 @@ fn put_number(line: &mut [u8], at: usize, x: f64, behind: u8) -> usize {
 fn all(s: &[u8; 88]) {
     let mods = mods_of(s, number(s, 3), number(s, 4));
     let asked = Asked {
-        mods: mods,
+        mods,
         approach_rate: number(s, 0),
         overall_difficulty: number(s, 1),
         base_multiplier: number(s, 2),
@@ -119,12 +120,9 @@ fn answer() -> bool {
 }
 
 fn main() {
-    let mut left = MOST;
-    while 0 < left {
-        if answer() {
-            left -= 1;
-        } else {
-            left = 0;
+    for _ in 0..MOST {
+        if !answer() {
+            break;
         }
     }
 }

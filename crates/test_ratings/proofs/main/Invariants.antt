@@ -1,8 +1,0 @@
--- `test_ratings::main` meets its contract: left falls. Assumes nothing.
-use Rattle.test_ratings.proofs.main.Given as goal
-
-abbrev pub invariant-loop-left : goal.invariant-loop-left
-invariant-loop-left l = Unit {0}
-
-abbrev pub decreases-loop-left : goal.decreases-loop-left
-decreases-loop-left l = l.left
