@@ -81,12 +81,9 @@ fn answer(path: &mut [u8]) -> bool
 fn run(path: &mut [u8])
     requires { 1128 ≤ length path.old }
 {
-    let mut left = MOST;
-    while 0 < left {
-        if answer(path) {
-            left -= 1;
-        } else {
-            left = 0;
+    for _ in 0..MOST {
+        if !answer(path) {
+            break;
         }
     }
 }
