@@ -18,7 +18,6 @@ use eval_values::Values;
 use osu_difficulty_object::OsuDifficultyObject;
 use skills::Skills;
 use skills_counts::ObjectCounts;
-
 pub use tables::{Header, fill_tables, open};
 
 // A space and the bits of a number.

@@ -8,9 +8,8 @@ ghost use Rattle.std.specs.Prelude.{◌≡◌, [], ◌∷◌, ◌<◌, ◌≤◌
 ghost use Rattle.print_text.specs.Buffer.{Puts};
 ghost use Rattle.print_text.specs.Text as Text;
 
-use num_floats::Binary;
-
 pub use input::{each_chart, next_length, next_long, next_word, read_chart, read_numbers};
+use num_floats::Binary;
 
 // One byte.
 pub fn put(out: &mut [u8], at: usize, b: u8) -> usize

@@ -67,11 +67,7 @@ fn answer(out: &mut [u8], at: usize, f: u8, x: u64, y: u64, z: u64) -> usize {
             at,
             told(num_util::float_ext::not_eq(a, f64::of_bits(y))),
         ),
-        _ => print_text::put_f64(
-            out,
-            at,
-            of_more(f, a, f64::of_bits(y), f64::of_bits(z)),
-        ),
+        _ => print_text::put_f64(out, at, of_more(f, a, f64::of_bits(y), f64::of_bits(z))),
     }
 }
 
