@@ -26,13 +26,13 @@ ghost use Rattle.pack.specs.Pack.{buffers, tables};
 use calls_readings::AimDetail;
 use chart_opening::Refusal;
 use eval_aim::AimRule;
+use eval_rhythm::Counted;
+use eval_values::Values;
+use osu_difficulty_object::OsuDifficultyObject;
 use skills::Skills;
 use skills_counts::ObjectCounts;
 use skills_rating::Mods;
 use skills_stars::{Asked, Ratings};
-use eval_values::Values;
-use eval_rhythm::Counted;
-use osu_difficulty_object::OsuDifficultyObject;
 
 // How many places a code tells apart, and how many totals, counts and ratings there are.
 const PLACE_SPAN: usize = 0x1_0000_0000;
@@ -58,6 +58,24 @@ fn code(r: Refusal) -> u64
     r.number() as u64 * PLACE_SPAN as u64 + (r.place() % PLACE_SPAN) as u64
 }
 
+// What a call answers that writes no numbers: 0 where it is carried out.
+fn verdict_code(verdict: Result<(), Refusal>) -> u64
+    ensures { result ≡ verdict_code verdict }
+{
+    match verdict {
+        Ok(()) => 0,
+        Err(r) => code(r),
+    }
+}
+
+// Writes numbers at the start of a lent slice.
+fn put_row(out: &mut [f64], row: &[f64])
+    requires { length row.now ≤ length out.old }
+    ensures { out.new ≡ put 0 row.now out.old }
+{
+    out[..row.len()].copy_from_slice(row);
+}
+
 // Checks a chart and fills its tables, for the second player with these settings.
 #[unsafe(no_mangle)]
 pub extern "C" fn difficulty_open_as(
@@ -70,10 +88,7 @@ pub extern "C" fn difficulty_open_as(
     ensures leaves { state chart.now records.new values.new
         ≡ open_leaves_as settings.now (state chart.now records.old values.old) }
 {
-    match calls_editor::open_as(chart, settings, records, values) {
-        Err(r) => code(r),
-        Ok(()) => 0,
-    }
+    verdict_code(calls_editor::open_as(chart, settings, records, values))
 }
 
 // Checks a chart and fills its tables.
@@ -104,10 +119,7 @@ pub extern "C" fn difficulty_replace(
     ensures leaves { state chart.new records.new values.new
         ≡ (outcome (ops.replace place object.now) (state chart.old records.old values.old)).leaves }
 {
-    match calls_editor::replace(chart, place, object, records, values) {
-        Err(r) => code(r),
-        Ok(()) => 0,
-    }
+    verdict_code(calls_editor::replace(chart, place, object, records, values))
 }
 
 // Puts an object at a place of the chart and brings the tables of both players up to date.
@@ -128,7 +140,7 @@ pub extern "C" fn difficulty_replace_both(
         ≡ both_leaves settings.now (ops.replace place object.now)
         (pair chart.old records.old values.old second_records.old second_values.old) }
 {
-    match calls_editor::replace_both(
+    verdict_code(calls_editor::replace_both(
         chart,
         settings,
         place,
@@ -137,10 +149,7 @@ pub extern "C" fn difficulty_replace_both(
         values,
         second_records,
         second_values,
-    ) {
-        Err(r) => code(r),
-        Ok(()) => 0,
-    }
+    ))
 }
 
 // Puts an object in before a place of the chart, in a buffer with room for it.
@@ -158,10 +167,7 @@ pub extern "C" fn difficulty_insert(
     ensures leaves { state chart.new records.new values.new
         ≡ (outcome (ops.insert place object.now) (state chart.old records.old values.old)).leaves }
 {
-    match calls_editor::insert(chart, place, object, records, values) {
-        Err(r) => code(r),
-        Ok(()) => 0,
-    }
+    verdict_code(calls_editor::insert(chart, place, object, records, values))
 }
 
 // Puts an object in before a place of the chart, in a buffer with room for it, for both players.
@@ -182,7 +188,7 @@ pub extern "C" fn difficulty_insert_both(
         ≡ both_leaves settings.now (ops.insert place object.now)
         (pair chart.old records.old values.old second_records.old second_values.old) }
 {
-    match calls_editor::insert_both(
+    verdict_code(calls_editor::insert_both(
         chart,
         settings,
         place,
@@ -191,10 +197,7 @@ pub extern "C" fn difficulty_insert_both(
         values,
         second_records,
         second_values,
-    ) {
-        Err(r) => code(r),
-        Ok(()) => 0,
-    }
+    ))
 }
 
 // Takes the object at a place out of the chart.
@@ -210,10 +213,7 @@ pub extern "C" fn difficulty_remove(
     ensures leaves { state chart.new records.new values.new
         ≡ (outcome (ops.remove place) (state chart.old records.old values.old)).leaves }
 {
-    match calls_editor::remove(chart, place, records, values) {
-        Err(r) => code(r),
-        Ok(()) => 0,
-    }
+    verdict_code(calls_editor::remove(chart, place, records, values))
 }
 
 // Takes the object at a place out of the chart, for both players.
@@ -233,7 +233,7 @@ pub extern "C" fn difficulty_remove_both(
         ≡ both_leaves settings.now (ops.remove place)
         (pair chart.old records.old values.old second_records.old second_values.old) }
 {
-    match calls_editor::remove_both(
+    verdict_code(calls_editor::remove_both(
         chart,
         settings,
         place,
@@ -241,10 +241,7 @@ pub extern "C" fn difficulty_remove_both(
         values,
         second_records,
         second_values,
-    ) {
-        Err(r) => code(r),
-        Ok(()) => 0,
-    }
+    ))
 }
 
 // Why a reading is refused whose answer has no room.
@@ -314,7 +311,12 @@ pub extern "C" fn difficulty_read_record_as(
 }
 
 // The record of a place, for an answer with as much room.
-fn record_into(chart: &[u8], records: &[f64], place: usize, room: usize) -> Result<OsuDifficultyObject, Refusal>
+fn record_into(
+    chart: &[u8],
+    records: &[f64],
+    place: usize,
+    room: usize,
+) -> Result<OsuDifficultyObject, Refusal>
     ensures { outcome_with (record_answer result) chart.now records.now []
         ≡ read_into 16 room (ops.read_record place) (state chart.now records.now []) }
 {
@@ -463,28 +465,29 @@ fn put_aim(out: &mut [f64], d: AimDetail)
 {
     let p = d.parts;
     let q = d.parts_no_sliders;
-    let p_rule = p.rule;
-    let q_rule = q.rule;
-    let with = rule_number(p_rule);
-    let without = rule_number(q_rule);
-    out[0] = d.value;
-    out[1] = p.curr_vel;
-    out[2] = p.prev_vel;
-    out[3] = p.wide;
-    out[4] = p.acute;
-    out[5] = p.wiggle;
-    out[6] = p.vel_change;
-    out[7] = p.slider;
-    out[8] = with;
-    out[9] = d.value_no_sliders;
-    out[10] = q.curr_vel;
-    out[11] = q.prev_vel;
-    out[12] = q.wide;
-    out[13] = q.acute;
-    out[14] = q.wiggle;
-    out[15] = q.vel_change;
-    out[16] = q.slider;
-    out[17] = without;
+    put_row(
+        out,
+        &[
+            d.value,
+            p.curr_vel,
+            p.prev_vel,
+            p.wide,
+            p.acute,
+            p.wiggle,
+            p.vel_change,
+            p.slider,
+            rule_number(p.rule),
+            d.value_no_sliders,
+            q.curr_vel,
+            q.prev_vel,
+            q.wide,
+            q.acute,
+            q.wiggle,
+            q.vel_change,
+            q.slider,
+            rule_number(q.rule),
+        ],
+    );
 }
 
 // Writes aim's value at a place with its parts and the rule that answered, and the same without sliders, for the second player with these settings.
@@ -565,8 +568,7 @@ pub extern "C" fn difficulty_read_rhythm_as(
     match rhythm_into_as(chart, settings, records, place, out.len()) {
         Err(r) => code(r),
         Ok(c) => {
-            out[0] = c.value;
-            out[1] = c.comparisons as u32 as f64;
+            put_row(out, &[c.value, c.comparisons as u32 as f64]);
             0
         }
     }
@@ -623,11 +625,7 @@ fn totals_into(
         (state chart.now [] values.now) }
 {
     if cramped {
-        return Err(refuse_sums(
-            chart,
-            settings,
-            values.len() / calls::VALUE_WIDTH,
-        ));
+        return Err(refuse_sums(chart, settings, values.len() / calls::VALUE_WIDTH));
     }
     calls_figures::totals_as(
         chart,
@@ -645,10 +643,7 @@ fn put_totals(out: &mut [f64], t: Skills)
     requires { totals_width ≤ length out.old }
     ensures { out.new ≡ put 0 (totals_row t) out.old }
 {
-    out[0] = t.aim;
-    out[1] = t.aim_no_sliders;
-    out[2] = t.speed;
-    out[3] = t.flashlight;
+    put_row(out, &[t.aim, t.aim_no_sliders, t.speed, t.flashlight]);
 }
 
 // Writes the four totals over the values in the table; times come from the chart. Carried out, all scratch is 0. For the second player with these settings.
@@ -755,11 +750,7 @@ fn totals_to_into(
         (state chart.now [] values.now) }
 {
     if cramped {
-        return Err(refuse_sums(
-            chart,
-            settings,
-            values.len() / calls::VALUE_WIDTH,
-        ));
+        return Err(refuse_sums(chart, settings, values.len() / calls::VALUE_WIDTH));
     }
     calls_figures::totals_to_as(
         chart,
@@ -881,7 +872,7 @@ pub extern "C" fn difficulty_totals_while_playing_as(
         (length list.old / totals_width)) (state chart.now [] values.now)
         (scratch_of aim.old aim_no_sliders.old speed.old flashlight.old) }
 {
-    match calls_figures::totals_while_playing_as(
+    verdict_code(calls_figures::totals_while_playing_as(
         chart,
         settings,
         values,
@@ -890,10 +881,7 @@ pub extern "C" fn difficulty_totals_while_playing_as(
         aim_no_sliders,
         speed,
         flashlight,
-    ) {
-        Err(r) => code(r),
-        Ok(()) => 0,
-    }
+    ))
 }
 
 // Fills a list of four numbers an entry with the totals reached after every number of objects, from 0 to N. Carried out, all scratch is 0.
@@ -953,11 +941,7 @@ fn counts_into(
         (state chart.now [] values.now) }
 {
     if cramped {
-        return Err(refuse_sums(
-            chart,
-            settings,
-            values.len() / calls::VALUE_WIDTH,
-        ));
+        return Err(refuse_sums(chart, settings, values.len() / calls::VALUE_WIDTH));
     }
     calls_figures::counts_as(
         chart,
@@ -975,13 +959,18 @@ fn put_counts(out: &mut [f64], c: ObjectCounts)
     requires { counts_width ≤ length out.old }
     ensures { out.new ≡ put 0 (counts_row c) out.old }
 {
-    out[0] = c.aim_difficult_strain_count;
-    out[1] = c.aim_no_sliders_difficult_strain_count;
-    out[2] = c.speed_difficult_strain_count;
-    out[3] = c.aim_no_sliders_top_weighted_slider_count;
-    out[4] = c.speed_top_weighted_slider_count;
-    out[5] = c.aim_difficult_slider_count;
-    out[6] = c.speed_note_count;
+    put_row(
+        out,
+        &[
+            c.aim_difficult_strain_count,
+            c.aim_no_sliders_difficult_strain_count,
+            c.speed_difficult_strain_count,
+            c.aim_no_sliders_top_weighted_slider_count,
+            c.speed_top_weighted_slider_count,
+            c.aim_difficult_slider_count,
+            c.speed_note_count,
+        ],
+    );
 }
 
 // Writes how many objects carry the chart, seven counts. Carried out, all scratch is 0. For the second player with these settings.
@@ -1119,11 +1108,7 @@ fn ratings_into(
         (state chart.now [] values.now) }
 {
     if cramped {
-        return Err(refuse_sums(
-            chart,
-            settings,
-            values.len() / calls::VALUE_WIDTH,
-        ));
+        return Err(refuse_sums(chart, settings, values.len() / calls::VALUE_WIDTH));
     }
     calls_figures::ratings_as(
         chart,
@@ -1142,10 +1127,7 @@ fn put_ratings(out: &mut [f64], r: Ratings)
     requires { ratings_width ≤ length out.old }
     ensures { out.new ≡ put 0 (ratings_row r) out.old }
 {
-    out[0] = r.aim;
-    out[1] = r.speed;
-    out[2] = r.flashlight;
-    out[3] = r.stars;
+    put_row(out, &[r.aim, r.speed, r.flashlight, r.stars]);
 }
 
 // Writes aim, speed and flashlight ratings and the stars, under mods and with numbers that come with the call. Carried out, all scratch is 0. For the
@@ -1310,7 +1292,7 @@ pub extern "C" fn difficulty_join(
         (scratch_of aim.old aim_no_sliders.old speed.old flashlight.old)) }
 {
     let asked = asked_of(mods, given, numbers);
-    match join_into(
+    verdict_code(join_into(
         pack,
         list,
         first,
@@ -1322,10 +1304,7 @@ pub extern "C" fn difficulty_join(
         speed,
         flashlight,
         numbers.len() < NUMBERS_WIDTH,
-    ) {
-        Err(r) => code(r),
-        Ok(()) => 0,
-    }
+    ))
 }
 
 // Puts a list of offsets into a pack in order, the higher chart first, under mods and with numbers that come with the call.

@@ -1,22 +1,14 @@
 -- `station::difficulty_replace` meets its contract. Assumes nothing.
-use mathlib.Core.Path.{sym, ap, ◌∙◌}
-use Rattle.calls_editor.specs.Answers.{replace_answer}
+use mathlib.Core.Path.{ap, ◌∙◌}
 use Rattle.calls.specs.Calls.{Outcome}
 use Rattle.station.specs.Codes.{answer_code}
+use Rattle.station.proofs.Told.{replace_code}
 use Rattle.station.proofs.difficulty_replace.Goals as goal
 
-pub returns-in-Err : goal.returns-in-Err
-returns-in-Err c =
+pub returns : goal.returns
+returns c =
     let e = c.replace.ensures in
     record {
-      answer = c.code.ensures ∙ ap answer_code (ap replace_answer (sym c.in-Err.is) ∙ ap (λ (x : Outcome). x.answer) e);
-      leaves = ap (λ (x : Outcome). x.leaves) e;
-    }
-
-pub returns-in-Ok : goal.returns-in-Ok
-returns-in-Ok c =
-    let e = c.replace.ensures in
-    record {
-      answer = ap answer_code (ap replace_answer (sym c.in-Ok.is) ∙ ap (λ (x : Outcome). x.answer) e);
+      answer = c.verdict_code.ensures ∙ replace_code _ ∙ ap (λ (x : Outcome). answer_code x.answer) e;
       leaves = ap (λ (x : Outcome). x.leaves) e;
     }
