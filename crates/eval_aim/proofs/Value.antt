@@ -25,7 +25,7 @@ use Rattle.osu_records.proofs.Parts.{ltb_iff, part_in, view_part}
 use Rattle.eval_aim.specs.declared.AimRule.{AimRule}
 use Rattle.eval_aim.specs.declared.AimRule.TheVariants.{TooFew, Spinner, Acute, Wide}
 use Rattle.eval_aim.specs.declared.AimParts.{AimParts}
-use Rattle.eval_aim.specs.Aim.{spacing_of, rule_of, side_of, no_parts, bonuses_of, combine_of, all_parts, parts_of, aim_of, parts_at_place}
+use Rattle.eval_aim.specs.Aim.{spacing_of, rule_of, side_of, no_parts, bonuses_of, combine_of, all_parts, parts_of, aim_of, parts_at_place, aim_at_place}
 
 -- no parts make 0
 combine_none : (r : AimRule) (sliders : Bool) → combine_of (no_parts r) sliders ≡ zero64
@@ -92,6 +92,11 @@ module _ (os : ℕ → Object) (t : List Float) (n j : ℕ) (part : Part) (slide
   pub parts_part : parts_at_place os (part_at (part_in t part) part) j sliders ≡ parts_at_place os (record_at t) j sliders
   parts_part =
       parts_same (view_of os (part_at (part_in t part) part) j) (view_of os (record_at t) j) (j - 1) (j - 1) sliders refl
+      (λ k b. view_part t j n part one inside f l os 3 k (omega arith) b)
+
+  pub aim_part : aim_at_place os (part_at (part_in t part) part) j sliders ≡ aim_at_place os (record_at t) j sliders
+  aim_part =
+      aim_same (view_of os (part_at (part_in t part) part) j) (view_of os (record_at t) j) (j - 1) (j - 1) sliders refl
       (λ k b. view_part t j n part one inside f l os 3 k (omega arith) b)
 
 -- ---- the rule names the side of the last max

@@ -11,7 +11,8 @@ use borrow.Author.Tests.{lt-ltb, le-ltb}
 use Rattle.num_whole.specs.NarrowLaws.{narrow_widened}
 use Rattle.num_tables.specs.Parts.{fill}
 use Rattle.num_tables.proofs.Rows.{row_fill-in}
-use Rattle.osu_object.specs.Osu.{Object}
+use Rattle.chart_fields.specs.declared.Layout.{Layout}
+use Rattle.osu_object.specs.Osu.{Object, object_of}
 use Rattle.osu_object.specs.Base.{repeats_of}
 use Rattle.osu_difficulty_object.specs.declared.OsuDifficultyObject.{OsuDifficultyObject as Record}
 use Rattle.osu_records.specs.Rows.{row_of, record_at as entry_at}
@@ -65,7 +66,7 @@ place_of : (a p : ℕ) → a ≤ p → a + (p - a) ≡ p
 place_of a p h = omega arith
 
 -- j is before the last place of the window where it is before the end of the slice
-next_alike : (j last records : ℕ) → last ≡ last_of j records → ltb j last ≡ ltb j records
+pub next_alike : (j last records : ℕ) → last ≡ last_of j records → ltb j last ≡ ltb j records
 next_alike j last records e = ap (ltb j) e ∙ go (ltb j records)
   where
     go : (b : Bool) → ltb j (cond b (j + 1) j) ≡ b
@@ -113,7 +114,7 @@ module _ (os : ℕ → Object) (rs qs : ℕ → Record) (j : ℕ) (one : 1 ≤ j
 
 -- ---- the window of a slice agrees with the slice
 
-window_agrees : (rs : List Record) (j : ℕ) → Agree j (in_window (window_of rs j) j) (record_of rs)
+pub window_agrees : (rs : List Record) (j : ℕ) → Agree j (in_window (window_of rs j) j) (record_of rs)
 window_agrees rs j p h l = slot_is rs j (p - first_place j) (slot_of (first_place j) p l) ∙ ap (record_of rs) (place_of (first_place j) p h)
 
 -- ---- the table that a window is put into agrees with the window
@@ -153,3 +154,25 @@ module _ (os : ℕ → Object) (t : List Float) (rs : List Record) (j : ℕ) (pa
   pub rhythm_shown : part.last ≡ last_of j (length rs) → (window : Float)
       → rhythm_at_place os (part_at t part) part.last j window ≡ rhythm_at_place os (record_of rs) (length rs) j window
   rhythm_shown e window = rhythm_seen os (part_at t part) (record_of rs) j one agrees part.last (length rs) (next_alike j part.last (length rs) e) window
+
+-- ---- a window has the values of the slice that it is of
+
+module _ (chart : List ℕ) (lay : Layout) (rs w : List Record) (j : ℕ) (one : 1 ≤ j) (of : w ≡ window_of rs j) where
+  abbrev objects : ℕ → Object
+  objects = object_of chart lay
+
+  same_slot : Agree j (in_window w j) (record_of rs)
+  same_slot p h l = ap (λ (v : List Record). in_window v j p) of ∙ window_agrees rs j p h l
+
+  pub aim_window : (sliders : Bool) → aim_at_place objects (in_window w j) j sliders ≡ aim_at_place objects (record_of rs) j sliders
+  aim_window sliders = aim_seen objects (in_window w j) (record_of rs) j one same_slot sliders
+
+  pub flashlight_window : (e : FlashlightEvaluator) (hidden : Bool) → flashlight_at_place e objects (in_window w j) j hidden ≡ flashlight_at_place e objects (record_of rs) j hidden
+  flashlight_window e hidden = flashlight_seen objects (in_window w j) (record_of rs) j one same_slot e hidden
+
+  pub speed_window : (window : Float) (autopilot : Bool)
+      → speed_at_place objects (in_window w j) (length rs) j window autopilot ≡ speed_at_place objects (record_of rs) (length rs) j window autopilot
+  speed_window window autopilot = speed_seen objects (in_window w j) (record_of rs) j one same_slot (length rs) (length rs) refl window autopilot
+
+  pub rhythm_window : (window : Float) → rhythm_at_place objects (in_window w j) (length rs) j window ≡ rhythm_at_place objects (record_of rs) (length rs) j window
+  rhythm_window window = rhythm_seen objects (in_window w j) (record_of rs) j one same_slot (length rs) (length rs) refl window

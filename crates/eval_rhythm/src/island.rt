@@ -158,7 +158,7 @@ pub fn entry_of(
     island: RhythmIsland,
     prev: RhythmIsland,
 ) -> IslandCount
-    requires { IfSome found (λ at. at < n) × (n ≤ length counts.now) × ((p : ℕ) → CountOk 31 (get_or counts.now p no_count)) }
+    requires { IfSome found (λ at. (at < n) × (at < length counts.now) × CountOk 31 (get_or counts.now at no_count)) }
     ensures { result ≡ entry_of counts.now n (unwrap_or found n) island prev }
 {
     match found {

@@ -1,10 +1,10 @@
 // A turn of the loop of evaluators/rhythm.rs.
-ghost use Rattle.std.specs.Prelude.{◌≡◌, ℕ, false, cond, List, ◌+◌, ◌≤◌, ◌<◌, get_or, Float};
+ghost use Rattle.std.specs.Prelude.{◌≡◌, ℕ, false, cond, List, ◌+◌, ◌≤◌, ◌<◌, get_or, length, Float};
 ghost use Rattle.eval_rhythm.specs.Island.{IslandOk};
-ghost use Rattle.eval_rhythm.specs.Counts.{CountOk, no_count};
+ghost use Rattle.eval_rhythm.specs.Counts.{CountOk, no_count, place_of};
 ghost use Rattle.eval_rhythm.specs.Step.{scaled_of, effective_of, decay_of, faster_twice, switch_ratio, factor_of, last_ratio};
 ghost use Rattle.eval_rhythm.specs.Step.{progressed_of, began_of, switched_of, fresh_state, deltas_of};
-ghost use Rattle.eval_rhythm.specs.Step.{switches_of, ratio_of, walk_of, switch_step, step_by, step_of};
+ghost use Rattle.eval_rhythm.specs.Step.{switches_of, passes_of, ratio_of, walk_of, switch_step, step_by, step_of};
 ghost use Rattle.eval_rhythm.specs.Comparisons.{compared_at, compared_in};
 ghost use Rattle.eval_rhythm.specs.declared.island.IslandCount.{IslandCount};
 
@@ -234,6 +234,14 @@ impl RhythmState {
         self.first_delta_switch && !(num_floats::abs(d.prev - d.curr) < eps)
     }
 
+    // The search goes past i, where entry stands: it is one of the n, and not the island's.
+    #[tactic(auto, unfolding(crate::specs::Step::passes_of))]
+    pub fn passes(self, i: usize, entry: IslandCount) -> bool
+        ensures { result ≡ passes_of self i entry }
+    {
+        i < self.n && !entry.island.same(self.island)
+    }
+
     // The ratio of a switch before the island counts.
     #[tactic(auto, unfolding(crate::specs::Step::ratio_of))]
     pub fn ratio(self, d: Deltas, curr: Cell, prev: Cell, eps: f64) -> f64
@@ -253,7 +261,7 @@ impl RhythmState {
     // A switch: the island that ends is counted, and another begins.
     pub fn switch_step(
         self,
-        counts: &mut [IslandCount; 32],
+        counts: &mut [IslandCount],
         d: Deltas,
         curr: Cell,
         prev: Cell,
@@ -261,17 +269,17 @@ impl RhythmState {
         window: f64,
         eps: f64,
     ) -> Turn
-        requires { (self.n < 32) × (IslandOk 31 self.island) × (IslandOk 31 self.prev_island)
-            × ((p : ℕ) → CountOk 31 (get_or counts.old p no_count)) }
+        requires { (self.n < 32) × (self.n < length counts.old) × (IslandOk 31 self.island) × (IslandOk 31 self.prev_island)
+            × (let at = place_of counts.old self.n self.island in at < self.n → CountOk 31 (get_or counts.old at no_count)) }
         ensures turn { walk_of result.state counts.new
             ≡ switch_step (walk_of self counts.old) (effective_of d.prev d.curr eps) d curr prev decay window eps }
         ensures compared { result.compared ≡ compared_at (walk_of self counts.old) }
     {
         let n = self.n;
         let island = self.island;
-        let (found, compared) = island::search(&counts[..], n, island);
+        let (found, compared) = island::search(counts, n, island);
         let place = found.unwrap_or(n);
-        let entry = island::entry_of(&counts[..], n, found, island, self.prev_island);
+        let entry = island::entry_of(counts, n, found, island, self.prev_island);
         counts[place] = entry;
         let ratio = self.ratio(d, curr, prev, eps);
         let tap_window = osu_difficulty_object::window_of(prev.spinner, window);
@@ -312,13 +320,13 @@ impl RhythmState {
         eps: f64,
     ) -> Turn
         requires { (self.n < 32) × (IslandOk 31 self.island) × (IslandOk 31 self.prev_island)
-            × ((p : ℕ) → CountOk 31 (get_or counts.old p no_count)) }
+            × (let at = place_of counts.old self.n self.island in at < self.n → CountOk 31 (get_or counts.old at no_count)) }
         ensures turn { walk_of result.state counts.new ≡ step_of (walk_of self counts.old) curr prev last decay window eps }
         ensures compared { result.compared ≡ compared_in (walk_of self counts.old) curr prev last eps }
     {
         let d = Deltas::new(curr, prev, last);
         if self.switches(d, eps) {
-            return self.switch_step(counts, d, curr, prev, decay, window, eps);
+            return self.switch_step(&mut counts[..], d, curr, prev, decay, window, eps);
         }
         Turn {
             state: self.other_step(d, curr, prev, eps),

@@ -10,7 +10,6 @@ use lib.ListN.{length}
 use lib.Ieee as Ieee
 use lib.Ieee.{Float, binary32, fits, of_bits}
 use lib.Ieee.Fits.{add-fits}
-use Rattle.std.specs.Option.{is_some, unwrap_or}
 use Rattle.num_floats.specs.Numbers.{◌⊕◌, ◌⊖◌, ◌⊗◌, ◌⊘◌}
 use Rattle.num_whole.specs.Narrow.{narrow}
 use Rattle.num_whole.specs.NarrowLaws.{narrow_widened}
@@ -58,7 +57,7 @@ module _ (set : Settings) (k : ℕ) (o last before : Object) where
   unfolding record_of new_record placed_of plain_of slid_of slider_cursor cursor_from
   has_lazy_end_lem = go o.base.kind
     where
-      go : (k : OsuObjectKind) → is_some (placed_by k set.radius o).cursor.lazy_end ≡ is_slider k
+      go : (k : OsuObjectKind) → (placed_by k set.radius o).cursor.has_lazy_end ≡ is_slider k
       go Circle = refl
       go Spinner = refl
       go (Slider end spans) = refl
@@ -128,7 +127,7 @@ unfolding start_of
 start_in o ps stated progress =
     record { cursor = sum-in o.pos o.stack_offset; lazy_end_lem = sum-in (stacked_pos o) (position_at ps stated (folded_of progress)) }
 
-from_in : (o : OsuObject) (end spans : Float) (ns : List Nested) (ps : List Point) (radius : Float) (t : Tracking) → InF32 (unwrap_or (cursor_from o end spans ns ps radius t).lazy_end zero_pos)
+from_in : (o : OsuObject) (end spans : Float) (ns : List Nested) (ps : List Point) (radius : Float) (t : Tracking) → InF32 (cursor_from o end spans ns ps radius t).lazy_end
 unfolding cursor_from
 from_in o end spans ns ps radius t =
     (run_in ns o.stack_offset (normalized_radius ⊘ radius) t.moved (length ns)
@@ -140,11 +139,11 @@ zero_in : InF32 zero_pos
 unfolding fits of_bits
 zero_in = record { x = tt; y = tt }
 
-placed-in : (radius : Float) (o : Object) → InF32 (unwrap_or (placed_of radius o).cursor.lazy_end zero_pos)
+placed-in : (radius : Float) (o : Object) → InF32 (placed_of radius o).cursor.lazy_end
 unfolding placed_of plain_of slid_of slider_cursor
 placed-in radius o = go o.base.kind
   where
-    go : (k : OsuObjectKind) → InF32 (unwrap_or (placed_by k radius o).cursor.lazy_end zero_pos)
+    go : (k : OsuObjectKind) → InF32 (placed_by k radius o).cursor.lazy_end
     go Circle = zero_in
     go Spinner = zero_in
     go (Slider end spans) =

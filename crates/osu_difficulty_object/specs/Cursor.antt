@@ -1,5 +1,5 @@
 -- The cursor of a slider, from the object, its nested entries and its points alone: `compute_slider_cursor_pos` of src/osu/difficulty/object.rs.
-use Rattle.std.specs.Prelude.{ℕ, zero, suc, ◌+◌, ◌-◌, Bool, Some, cond, List, ltb, eqb, length, Float}
+use Rattle.std.specs.Prelude.{ℕ, zero, suc, ◌+◌, ◌-◌, Bool, true, cond, List, ltb, eqb, length, Float}
 use Rattle.std.specs.Float.Ieee as Ieee
 use Rattle.std.specs.Float.{binary32, binary64}
 use Rattle.num_floats.specs.Numbers.{◌⊕◌, ◌⊖◌, ◌⊗◌, ◌⊘◌, zero64, one64, two64}
@@ -95,7 +95,7 @@ cursor_from o end spans ns ps radius t =
     let duration = end ⊖ o.start_time in
     let time = t.end_time ⊖ o.start_time in
     let s = run_of ns o.stack_offset (normalized_radius ⊘ radius) t.moved (length ns) (start_of (stacked_pos o) ps o.length (time ⊘ (duration ⊘ spans))) in
-    record { lazy_end = Some s.lazy_end; lazy_travel_dist = s.travel_dist; lazy_travel_time = time }
+    record { has_lazy_end = true; lazy_end = s.lazy_end; lazy_travel_dist = s.travel_dist; lazy_travel_time = time }
 
 unfoldable pub slider_cursor : OsuObject → Float → Float → List Nested → List Point → Float → Cursor
 slider_cursor o end spans ns ps radius =

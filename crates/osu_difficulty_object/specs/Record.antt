@@ -1,5 +1,5 @@
 -- The object record, from the settings and three objects: `OsuDifficultyObject::new` and `set_distances` of src/osu/difficulty/object.rs.
-use Rattle.std.specs.Prelude.{ℕ, ◌-◌, min, Option, Some, None, cond, not, ◌&&◌, ◌||◌, List, ltb, pos, Float}
+use Rattle.std.specs.Prelude.{ℕ, ◌-◌, min, Option, Some, None, false, cond, not, ◌&&◌, ◌||◌, List, ltb, pos, Float}
 use Rattle.std.specs.Option.{is_some, unwrap_or}
 use Rattle.std.specs.Float.Ieee as Ieee
 use Rattle.std.specs.Float.{binary64}
@@ -32,7 +32,7 @@ zero_pos = record { x = f32 0; y = f32 0 }
 unfoldable pub plain_of : OsuObject → Placed
 plain_of base = record {
   base = base;
-  cursor = record { lazy_end = None; lazy_travel_dist = zero64; lazy_travel_time = zero64 };
+  cursor = record { has_lazy_end = false; lazy_end = zero_pos; lazy_travel_dist = zero64; lazy_travel_time = zero64 };
   tail = zero_pos;
   repeats = 0;
 }
@@ -71,7 +71,7 @@ travel_of o rate =
 
 -- where the cursor leaves an object: `get_end_cursor_pos`
 unfoldable pub end_cursor : Placed → Pos
-end_cursor o = unwrap_or o.cursor.lazy_end (stacked_pos o.base)
+end_cursor o = cond o.cursor.has_lazy_end o.cursor.lazy_end (stacked_pos o.base)
 
 -- where it comes from: the object at place 0 has no record, so no lazy end
 unfoldable pub last_cursor : ℕ → Placed → Pos
@@ -157,13 +157,13 @@ new_record set j o last before =
       min_jump_time = jump.min_time;
       travel_dist = travel.dist;
       travel_time = travel.time;
-      lazy_end_x = (unwrap_or o.cursor.lazy_end zero_pos).x;
-      lazy_end_y = (unwrap_or o.cursor.lazy_end zero_pos).y;
+      lazy_end_x = o.cursor.lazy_end.x;
+      lazy_end_y = o.cursor.lazy_end.y;
       lazy_travel_dist = o.cursor.lazy_travel_dist;
       lazy_travel_time = o.cursor.lazy_travel_time;
       angle = unwrap_or turn zero64;
       small_circle_bonus = small_circle_bonus set.radius;
-      has_lazy_end = is_some o.cursor.lazy_end;
+      has_lazy_end = o.cursor.has_lazy_end;
       has_angle = is_some turn;
     }
 

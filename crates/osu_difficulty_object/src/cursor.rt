@@ -28,10 +28,12 @@ pub struct CursorState {
     pub travel_dist: f64,
 }
 
-// What the record takes from a slider; no lazy end and zeros for the other kinds.
+// What the record takes from a slider; zeros for the other kinds. A flag and a position, and no Option, by what may not change:
+// `OsuDifficultyObject::new` answers with the position where the flag is not set, too.
 #[derive(Clone, Copy)]
 pub struct Cursor {
-    pub lazy_end: Option<Pos>,
+    pub has_lazy_end: bool,
+    pub lazy_end: Pos,
     pub lazy_travel_dist: f64,
     pub lazy_travel_time: f64,
 }
@@ -221,7 +223,8 @@ pub fn compute_slider_cursor_pos(
     let scaling_factor = OsuDifficultyObject::NORMALIZED_RADIUS as f64 / radius;
     let s = run(slider, o.stack_offset, scaling_factor, t.moved, from);
     Cursor {
-        lazy_end: Some(s.lazy_end),
+        has_lazy_end: true,
+        lazy_end: s.lazy_end,
         lazy_travel_dist: s.travel_dist,
         lazy_travel_time: travel_time,
     }

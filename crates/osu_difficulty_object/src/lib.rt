@@ -16,7 +16,7 @@ use osu_pos::Pos;
 
 pub mod cursor;
 
-// What records take from one object. But for a slider the cursor has no lazy end, and its numbers, tail and repeats are zeros.
+// What records take from one object. Cursor, tail and repeats are zeros but for a slider.
 #[derive(Clone, Copy)]
 pub struct Placed {
     pub base: OsuObject,
@@ -87,7 +87,6 @@ impl OsuDifficultyObject {
         ensures { result ≡ new_record set j o last last_last }
     {
         let cursor = o.cursor;
-        let lazy_end = cursor.lazy_end.unwrap_or(Pos { x: 0.0, y: 0.0 });
         let delta_time = (o.base.start_time - last.base.start_time) / set.clock_rate;
         let adjusted = num_floats::max(delta_time, Self::MIN_DELTA_TIME);
         let Distances {
@@ -104,8 +103,8 @@ impl OsuDifficultyObject {
             min_jump_time: jump.min_time,
             travel_dist: travel.dist,
             travel_time: travel.time,
-            lazy_end_x: lazy_end.x,
-            lazy_end_y: lazy_end.y,
+            lazy_end_x: cursor.lazy_end.x,
+            lazy_end_y: cursor.lazy_end.y,
             lazy_travel_dist: cursor.lazy_travel_dist,
             lazy_travel_time: cursor.lazy_travel_time,
             angle: angle.unwrap_or(0.0),
@@ -113,7 +112,7 @@ impl OsuDifficultyObject {
                 1.0 + (SMALL_RADIUS - set.radius) / SMALL_RADIUS_SCALE,
                 1.0,
             ),
-            has_lazy_end: cursor.lazy_end.is_some(),
+            has_lazy_end: cursor.has_lazy_end,
             has_angle: angle.is_some(),
         }
     }
@@ -214,15 +213,17 @@ pub fn opacity_at(
 fn plain(base: OsuObject) -> Placed
     ensures { result ≡ plain_of base }
 {
+    let zero = Pos { x: 0.0, y: 0.0 };
     let cursor = Cursor {
-        lazy_end: None,
+        has_lazy_end: false,
+        lazy_end: zero,
         lazy_travel_dist: 0.0,
         lazy_travel_time: 0.0,
     };
     Placed {
         base,
         cursor,
-        tail: Pos { x: 0.0, y: 0.0 },
+        tail: zero,
         repeats: 0,
     }
 }
@@ -271,10 +272,15 @@ fn travel_of(o: Placed, clock_rate: f64) -> Travel
 }
 
 // Where the cursor leaves an object: at a slider's lazy end.
+#[tactic(auto, unfolding(crate::specs::Record::end_cursor))]
 fn get_end_cursor_pos(o: Placed) -> Pos
     ensures { result ≡ end_cursor o }
 {
-    o.cursor.lazy_end.unwrap_or(o.base.stacked_pos())
+    if o.cursor.has_lazy_end {
+        o.cursor.lazy_end
+    } else {
+        o.base.stacked_pos()
+    }
 }
 
 // Where the cursor comes from. The object at place 0 has no record, so no lazy end.

@@ -28,7 +28,7 @@ loop-k-init c =
 pub turn-turn-requires : goal.turn-turn-requires
 turn-turn-requires c =
     let g = good_mono _ 31 _ (few_steps c.args.from c.loop-k.k c.args.hist c.requires.3 c.requires.6) c.loop-k.invariant.good in
-    (omega (arith, g.few), g.island_ok, g.prev_ok, g.counts_ok_lem.at)
+    (omega (arith, g.few), g.island_ok, g.prev_ok, λ h. g.counts_ok_lem.at _)
 
 pub overflow_add-comparisons : goal.overflow_add-comparisons
 overflow_add-comparisons c =

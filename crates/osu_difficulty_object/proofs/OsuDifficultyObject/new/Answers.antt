@@ -4,4 +4,4 @@ use Rattle.osu_difficulty_object.proofs.OsuDifficultyObject.new.Goals as goal
 
 pub returns : goal.returns
 unfolding new_record
-returns c = simp (c.is_some-2.ensures, c.is_some.ensures, c.unwrap_or.ensures, c.unwrap_or-lazy_end.ensures, c.max.ensures, c.set_distances-angle.ensures, c.max-adjusted.ensures)
+returns c = simp (c.is_some.ensures, c.unwrap_or.ensures, c.max.ensures, c.set_distances-angle.ensures, c.max-adjusted.ensures)
