@@ -1,3 +1,4 @@
+pub mod Copy
 pub mod Local
 pub mod Searched
 pub mod Accepted

@@ -12,12 +12,14 @@ ghost use Rattle.chart_replacing.specs.Accepted.{Taken};
 use chart_fields::{Fields, Layout};
 use chart_opening::Refusal;
 
-// Copies s to d, from at on.
+// Copies s to d, from at on. By a loop, since `copy_from_slice` makes the library need `memmove`, by what may not change.
 pub fn put(d: &mut [u8], at: usize, s: &[u8])
     requires { at + length s.now ≤ length d.old }
     ensures { d.new ≡ parts.put at s.now d.old }
 {
-    d[at..at + s.len()].copy_from_slice(s);
+    for k in 0..s.len() {
+        d[at + k] = s[k];
+    }
 }
 
 // Condition 5 at the new object's place: it starts before its predecessor.
