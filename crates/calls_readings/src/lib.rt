@@ -47,8 +47,25 @@ fn check_place(n: usize, numbers: usize, width: usize, place: usize) -> Result<(
     Ok(())
 }
 
-// Conditions 1, 7 and 8 of a reading for the second player, with 2 right after 1 for settings of another length.
+// Conditions 1, 7 and 8 of a reading. The first player's readings test the header themselves, and do not go by way of the second
+// player's, for their speed (DECISIONS 93): so each reading has one caller, into which it is copied.
 fn check_reading(
+    chart: &[u8],
+    numbers: usize,
+    width: usize,
+    place: usize,
+) -> Result<(), Refusal>
+    requires { (0 < width) × (width ≤ record_width) }
+    ensures { result ≡ read_verdict chart.now (numbers / width) place }
+{
+    if !chart_opening::header_ok(chart) {
+        return Err(Refusal::Header);
+    }
+    check_place(chart_opening::layout_of(chart).n, numbers, width, place)
+}
+
+// The same for the second player, with 2 right after 1 for settings of another length.
+fn check_reading_as(
     chart: &[u8],
     settings: &[u8],
     numbers: usize,
@@ -77,7 +94,8 @@ pub fn read_record(
     ensures { outcome_with (record_answer result) chart.now records.now []
         ≡ outcome (ops.read_record place) (state chart.now records.now []) }
 {
-    read_record_as(chart, calls::own_settings(chart)?, records, place)
+    check_reading(chart, records.len(), calls::RECORD_WIDTH, place)?;
+    Ok(osu_records::record_at(records, place))
 }
 
 // The record of a place, as the table has it, for the second player.
@@ -90,7 +108,7 @@ pub fn read_record_as(
     ensures { outcome_with (record_answer result) chart.now records.now []
         ≡ outcome_as settings.now (ops.read_record place) (state chart.now records.now []) }
 {
-    check_reading(chart, settings, records.len(), calls::RECORD_WIDTH, place)?;
+    check_reading_as(chart, settings, records.len(), calls::RECORD_WIDTH, place)?;
     Ok(osu_records::record_at(records, place))
 }
 
@@ -99,7 +117,8 @@ pub fn read_values(chart: &[u8], values: &[f64], place: usize) -> Result<Values,
     ensures { outcome_with (values_answer result) chart.now [] values.now
         ≡ outcome (ops.read_values place) (state chart.now [] values.now) }
 {
-    read_values_as(chart, calls::own_settings(chart)?, values, place)
+    check_reading(chart, values.len(), calls::VALUE_WIDTH, place)?;
+    Ok(eval_values::row_at(values, place))
 }
 
 // The values of a place, as the table has them, for the second player.
@@ -112,7 +131,7 @@ pub fn read_values_as(
     ensures { outcome_with (values_answer result) chart.now [] values.now
         ≡ outcome_as settings.now (ops.read_values place) (state chart.now [] values.now) }
 {
-    check_reading(chart, settings, values.len(), calls::VALUE_WIDTH, place)?;
+    check_reading_as(chart, settings, values.len(), calls::VALUE_WIDTH, place)?;
     Ok(eval_values::row_at(values, place))
 }
 
@@ -137,7 +156,8 @@ pub fn read_aim_parts(chart: &[u8], records: &[f64], place: usize) -> Result<Aim
     ensures { outcome_with (aim_answer result) chart.now records.now []
         ≡ outcome (ops.read_detail details.aim_parts place) (state chart.now records.now []) }
 {
-    read_aim_parts_as(chart, calls::own_settings(chart)?, records, place)
+    check_reading(chart, records.len(), calls::RECORD_WIDTH, place)?;
+    Ok(aim_at(chart, records, place))
 }
 
 // Aim's value at a place with its parts, from the records of the table, for the second player.
@@ -150,7 +170,7 @@ pub fn read_aim_parts_as(
     ensures { outcome_with (aim_answer result) chart.now records.now []
         ≡ outcome_as settings.now (ops.read_detail details.aim_parts place) (state chart.now records.now []) }
 {
-    check_reading(chart, settings, records.len(), calls::RECORD_WIDTH, place)?;
+    check_reading_as(chart, settings, records.len(), calls::RECORD_WIDTH, place)?;
     Ok(aim_at(chart, records, place))
 }
 
@@ -168,7 +188,9 @@ pub fn read_rhythm(chart: &[u8], records: &[f64], place: usize) -> Result<Counte
     ensures { outcome_with (rhythm_answer result) chart.now records.now []
         ≡ outcome (ops.read_detail details.rhythm place) (state chart.now records.now []) }
 {
-    read_rhythm_as(chart, calls::own_settings(chart)?, records, place)
+    check_reading(chart, records.len(), calls::RECORD_WIDTH, place)?;
+    let set = chart_opening::settings_at(chart, calls::SETTINGS_AT);
+    Ok(rhythm_at(chart, set, records, place))
 }
 
 // The rhythm value of a place, and how often an island was compared with a kept one for it, from the records of the table, for the
@@ -182,7 +204,7 @@ pub fn read_rhythm_as(
     ensures { outcome_with (rhythm_answer result) chart.now records.now []
         ≡ outcome_as settings.now (ops.read_detail details.rhythm place) (state chart.now records.now []) }
 {
-    check_reading(chart, settings, records.len(), calls::RECORD_WIDTH, place)?;
+    check_reading_as(chart, settings, records.len(), calls::RECORD_WIDTH, place)?;
     let set = chart_opening::settings_at(settings, 0);
     Ok(rhythm_at(chart, set, records, place))
 }

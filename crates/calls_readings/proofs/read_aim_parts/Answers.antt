@@ -1,23 +1,23 @@
 -- `calls_readings::read_aim_parts` meets its contract. Assumes nothing.
 use Rattle.std.proofs.lemmas.Result.{err_from_is_err_and}
-use mathlib.Core.Path.{sym, ◌∙◌}
-use mathlib.Core.List.{[]}
 use Rattle.calls.specs.Afresh.{aim_parts}
-use Rattle.calls.specs.Conditions.{read_detail}
-use Rattle.calls.specs.Calls.{state}
-use Rattle.calls_players.specs.Statement.{Reads}
-use Rattle.calls_readings.proofs.Outcomes.{short_chart, own_reading}
+use Rattle.calls.specs.Calls.{detail_is, outcome_with}
+use Rattle.calls_readings.proofs.Outcomes.{detail_refused, detail_read, in_table}
+use mathlib.Core.List.{[]}
+use mathlib.Core.Path.{sym, ◌∙◌}
 use Rattle.calls_readings.proofs.read_aim_parts.Goals as goal
 
-pub returns-in_err-own_settings : goal.returns-in_err-own_settings
-returns-in_err-own_settings c =
+pub aim_at-requires : goal.aim_at-requires
+aim_at-requires c = let a = c.args in in_table a.chart.now a.records.now a.place (sym c.check_reading.ensures ∙ c.in_ok-check_reading.was)
+
+pub returns-in_err-check_reading : goal.returns-in_err-check_reading
+returns-in_err-check_reading c =
     let a = c.args in
     let p = err_from_is_err_and c.from_residual.result c.from_residual.ensures.1 in
-    let s = c.own_settings.ensures.short _ c.in_err-own_settings.was in
-    rw (p.1, p.2, s.1) (sym (short_chart (read_detail aim_parts a.place) (state a.chart.now a.records.now []) s.0))
+    rw (p.1, p.2) (sym (detail_refused a.chart.now a.records.now a.place aim_parts _ (sym c.check_reading.ensures ∙ c.in_err-check_reading.was)))
 
 pub returns : goal.returns
-unfolding Reads
 returns c =
     let a = c.args in
-    c.read_aim_parts_as.ensures ∙ own_reading (read_detail aim_parts a.place) (state a.chart.now a.records.now []) tt _ (c.own_settings.ensures.own _ c.in_ok-own_settings.was)
+    (λ i. outcome_with (detail_is (c.aim_at.ensures i)) a.chart.now a.records.now [])
+    ∙ sym (detail_read a.chart.now a.records.now a.place aim_parts (sym c.check_reading.ensures ∙ c.in_ok-check_reading.was))

@@ -9,12 +9,12 @@ use mathlib.Core.Path.{sym, ◌∙◌}
 use Rattle.calls_readings.proofs.read_aim_parts_as.Goals as goal
 
 pub aim_at-requires : goal.aim_at-requires
-aim_at-requires c = let a = c.args in in_table a.settings.now a.chart.now a.records.now a.place (sym c.check_reading.ensures ∙ c.in_ok-check_reading.was)
+aim_at-requires c = let a = c.args in in_table a.settings.now a.chart.now a.records.now a.place (sym c.check_reading_as.ensures ∙ c.in_ok-check_reading_as.was)
 
-pub returns-in_err-check_reading : goal.returns-in_err-check_reading
-returns-in_err-check_reading c =
+pub returns-in_err-check_reading_as : goal.returns-in_err-check_reading_as
+returns-in_err-check_reading_as c =
     let p = err_from_is_err_and c.from_residual.result c.from_residual.ensures.1 in
-    rw (p.1, p.2) (let a = c.args in (sym (detail_refused a.settings.now a.chart.now a.records.now a.place aim_parts _ (sym c.check_reading.ensures ∙ c.in_err-check_reading.was))))
+    rw (p.1, p.2) (let a = c.args in (sym (detail_refused a.settings.now a.chart.now a.records.now a.place aim_parts _ (sym c.check_reading_as.ensures ∙ c.in_err-check_reading_as.was))))
 
 pub returns : goal.returns
-returns c = let a = c.args in ((λ i. outcome_with (detail_is ((c.aim_at.ensures ∙ aim_any (settings_of a.chart.now) (settings_at a.settings.now 0) a.chart.now a.records.now a.place) i)) a.chart.now a.records.now []) ∙ sym (detail_read a.settings.now a.chart.now a.records.now a.place aim_parts (sym c.check_reading.ensures ∙ c.in_ok-check_reading.was)))
+returns c = let a = c.args in ((λ i. outcome_with (detail_is ((c.aim_at.ensures ∙ aim_any (settings_of a.chart.now) (settings_at a.settings.now 0) a.chart.now a.records.now a.place) i)) a.chart.now a.records.now []) ∙ sym (detail_read a.settings.now a.chart.now a.records.now a.place aim_parts (sym c.check_reading_as.ensures ∙ c.in_ok-check_reading_as.was)))

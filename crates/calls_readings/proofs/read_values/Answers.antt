@@ -1,22 +1,26 @@
 -- `calls_readings::read_values` meets its contract. Assumes nothing.
 use Rattle.std.proofs.lemmas.Result.{err_from_is_err_and}
-use mathlib.Core.Path.{sym, ◌∙◌}
+use Rattle.calls.proofs.Refusals.{accepted_read}
+use Rattle.calls.specs.Calls.{values_are, outcome_with}
+use Rattle.calls_readings.proofs.Outcomes.{values_refused, values_read}
 use mathlib.Core.List.{[]}
-use Rattle.calls.specs.Conditions.{read_values}
-use Rattle.calls.specs.Calls.{state}
-use Rattle.calls_players.specs.Statement.{Reads}
-use Rattle.calls_readings.proofs.Outcomes.{short_chart, own_reading}
+use native.Mathlib.Omega.{arith}
+use mathlib.Core.Path.{sym, ◌∙◌}
 use Rattle.calls_readings.proofs.read_values.Goals as goal
 
-pub returns-in_err-own_settings : goal.returns-in_err-own_settings
-returns-in_err-own_settings c =
+pub row_at-requires : goal.row_at-requires
+row_at-requires c =
+    let d = accepted_read _ _ _ (sym c.check_reading.ensures ∙ c.in_ok-check_reading.was) in
+    omega (arith, d.room, d.below)
+
+pub returns-in_err-check_reading : goal.returns-in_err-check_reading
+returns-in_err-check_reading c =
     let a = c.args in
     let p = err_from_is_err_and c.from_residual.result c.from_residual.ensures.1 in
-    let s = c.own_settings.ensures.short _ c.in_err-own_settings.was in
-    rw (p.1, p.2, s.1) (sym (short_chart (read_values a.place) (state a.chart.now [] a.values.now) s.0))
+    rw (p.1, p.2) (sym (values_refused a.chart.now a.values.now a.place _ (sym c.check_reading.ensures ∙ c.in_err-check_reading.was)))
 
 pub returns : goal.returns
-unfolding Reads
 returns c =
     let a = c.args in
-    c.read_values_as.ensures ∙ own_reading (read_values a.place) (state a.chart.now [] a.values.now) tt _ (c.own_settings.ensures.own _ c.in_ok-own_settings.was)
+    (λ i. outcome_with (values_are (c.row_at.ensures i)) a.chart.now [] a.values.now)
+    ∙ sym (values_read a.chart.now a.values.now a.place (sym c.check_reading.ensures ∙ c.in_ok-check_reading.was))
