@@ -49,12 +49,7 @@ fn check_place(n: usize, numbers: usize, width: usize, place: usize) -> Result<(
 
 // Conditions 1, 7 and 8 of a reading. The first player's readings test the header themselves, and do not go by way of the second
 // player's, for their speed (DECISIONS 93): so each reading has one caller, into which it is copied.
-fn check_reading(
-    chart: &[u8],
-    numbers: usize,
-    width: usize,
-    place: usize,
-) -> Result<(), Refusal>
+fn check_reading(chart: &[u8], numbers: usize, width: usize, place: usize) -> Result<(), Refusal>
     requires { (0 < width) × (width ≤ record_width) }
     ensures { result ≡ read_verdict chart.now (numbers / width) place }
 {
