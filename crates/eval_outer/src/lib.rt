@@ -3,7 +3,7 @@
 // is a next record where the slice has one; at any other place past its end stands a record of zeros.
 #![tactic(auto)]
 
-ghost use Rattle.std.specs.Prelude.{◌≡◌, ◌+◌, ◌≤◌, ◌<◌};
+ghost use Rattle.std.specs.Prelude.{◌≡◌, ◌+◌, ◌≤◌, ◌<◌, length};
 ghost use Rattle.chart_fields.specs.Objects.{Holds};
 ghost use Rattle.osu_object.specs.Osu.{Ready};
 ghost use Rattle.osu_records.specs.Part.{first_place};
@@ -55,16 +55,16 @@ pub fn window(rs: &[OsuDifficultyObject], j: usize) -> [OsuDifficultyObject; 34]
     w
 }
 
-// The window of place j as a part of the table of records: 34 rows of 16 numbers.
-fn table(rs: &[OsuDifficultyObject], j: usize) -> [f64; 544]
-    ensures { Shows result rs.now j }
+// Puts the window of place j into a table, as a part of the table of records: 34 rows of 16 numbers. The table is lent, since one that
+// is answered is set to 0 by the caller too.
+fn put_window(t: &mut [f64], rs: &[OsuDifficultyObject], j: usize)
+    requires { 544 ≤ length t.old }
+    ensures { Shows t.new rs.now j }
 {
     let w = window(rs, j);
-    let mut t = [0.0f64; 544];
     for k in 0..34 {
-        osu_records::put_record(&mut t[..], k, w[k]);
+        osu_records::put_record(t, k, w[k]);
     }
-    t
 }
 
 // The places of the window of place j that count, of a slice with so many records: j has a next one where the slice has.
@@ -90,7 +90,8 @@ pub fn evaluate_aim(
     requires { Holds chart.now lay × (1 ≤ j) × (j < lay.n) }
     ensures { result ≡ aim_on chart.now lay diff_objects.now j with_slider_travel_dist }
 {
-    let t = table(diff_objects, j);
+    let mut t = [0.0f64; 544];
+    put_window(&mut t[..], diff_objects, j);
     eval_aim::evaluate_diff_of(
         &t[..],
         part_in(j, j),
@@ -113,7 +114,8 @@ pub fn evaluate_speed(
     requires { Holds chart.now lay × (1 ≤ j) × (j < lay.n) }
     ensures { result ≡ speed_on chart.now lay diff_objects.now j hit_window autopilot }
 {
-    let t = table(diff_objects, j);
+    let mut t = [0.0f64; 544];
+    put_window(&mut t[..], diff_objects, j);
     let part = part_in(j, diff_objects.len());
     eval_speed::evaluate_diff_of(&t[..], part, chart, lay, j, hit_window, autopilot)
 }
@@ -129,7 +131,8 @@ pub fn evaluate_rhythm(
     requires { Holds chart.now lay × (1 ≤ j) × (j < lay.n) }
     ensures { result ≡ rhythm_on chart.now lay diff_objects.now j hit_window }
 {
-    let t = table(diff_objects, j);
+    let mut t = [0.0f64; 544];
+    put_window(&mut t[..], diff_objects, j);
     let part = part_in(j, diff_objects.len());
     eval_rhythm::evaluate_diff_of(&t[..], part, chart, lay, j, hit_window)
 }
@@ -146,6 +149,7 @@ pub fn evaluate_flashlight(
     requires { Ready chart.now lay × (1 ≤ j) × (j < lay.n) }
     ensures { result ≡ flashlight_on evaluator chart.now lay diff_objects.now j hidden }
 {
-    let t = table(diff_objects, j);
+    let mut t = [0.0f64; 544];
+    put_window(&mut t[..], diff_objects, j);
     evaluator.evaluate_diff_of(&t[..], part_in(j, j), chart, lay, j, hidden)
 }

@@ -8,4 +8,4 @@ pub returns : goal.returns
 returns c =
     let a = c.args in
     c.evaluate_diff_of.ensures
-    ∙ aim_shown (object_of a.chart.now a.lay) c.table-t.result a.diff_objects.now a.j c.part_in.result c.requires.1 c.part_in.ensures.0 c.table-t.ensures a.with_slider_travel_dist
+    ∙ aim_shown (object_of a.chart.now a.lay) c.put_window.new.t a.diff_objects.now a.j c.part_in.result c.requires.1 c.part_in.ensures.0 c.put_window.ensures a.with_slider_travel_dist

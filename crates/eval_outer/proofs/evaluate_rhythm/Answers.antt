@@ -8,4 +8,4 @@ pub returns : goal.returns
 returns c =
     let a = c.args in
     c.evaluate_diff_of.ensures
-    ∙ rhythm_shown (object_of a.chart.now a.lay) c.table-t.result a.diff_objects.now a.j c.part_in-part.result c.requires.1 c.part_in-part.ensures.0 c.table-t.ensures c.part_in-part.ensures.1 a.hit_window
+    ∙ rhythm_shown (object_of a.chart.now a.lay) c.put_window.new.t a.diff_objects.now a.j c.part_in-part.result c.requires.1 c.part_in-part.ensures.0 c.put_window.ensures c.part_in-part.ensures.1 a.hit_window
